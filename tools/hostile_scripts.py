@@ -9,7 +9,8 @@ sizes where they change, rivals in unique indexes, and cursors over a transactio
 are fetched to their end.
 
 With --rooms N each script is run N times more with a random part of the memory that it takes: each of these runs ends with
-status 0 and the same transcript, or with status 4, `no memory` and the transcript of the first calls.
+status 0 and the same transcript, or with status 4, `no memory` and the transcript of the first calls; or so with another legal
+transcript, where a background step beside a FETCH found no memory.
 
 A script has a number, and number and seed make it: `--only KIND:NUMBER --print` writes it. With --keep FOLDER each script that
 differs is kept there, made as short as a difference allows, beside what the model and the program gave. --minutes M lets it run
@@ -843,9 +844,9 @@ class Night:
             room = rng.randint(1, max(1, most))
             ran = shim.run(command, script, room=room, seconds=4 * self.asked.seconds)
             self.limited[f"status {ran.status} " + ("with calls told" if ran.output else "with nothing written")] += 1
-            what = wrong_end(ran, wants)
+            what = wrong_end(ran, wants, script)
             if what is not None:
-                still = lambda less: wrong_end(shim.run(command, less, room=room), wanted(less, words)) is not None
+                still = lambda less: wrong_end(shim.run(command, less, room=room), wanted(less, words), less) is not None
                 self.report(name, words, f"with room for {room} of {most} bytes: {what}", script, still)
                 return
 

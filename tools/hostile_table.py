@@ -197,7 +197,7 @@ class Table:
             for limit in limits:
                 ran = shim.run([self.program], script, **limit)
                 self.cases += 1
-                what = wrong_end(ran, whole)
+                what = wrong_end(ran, whole, script)
                 if what is not None:
                     self.wrong += 1
                     print(f"{limit}: {what}")

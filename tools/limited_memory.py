@@ -10,6 +10,10 @@ import tempfile
 from dataclasses import dataclass
 from pathlib import Path
 
+from slow_audit import verdict
+
+MISSING = 9  # the status with which the audit tells that calls are missing of a transcript that is legal so far
+
 SHIM = r"""
 #define _GNU_SOURCE
 #include <dlfcn.h>
@@ -184,15 +188,26 @@ def is_front(output: bytes, transcript: bytes) -> bool:
     return transcript.startswith(output) and output.count(b"\n") % 2 == 0 and output[-1:] in (b"", b"\n")
 
 
-def wrong_end(ran: Ran, whole: tuple[int, bytes, bytes]) -> str | None:
-    """What is wrong with the end of a run with less memory, beside the end that it has with enough, or None."""
+def is_legal(output: bytes, script: bytes, whole: bool) -> bool:
+    """Whether the output is a legal transcript of the script, of all its calls or, where it need not be whole, of the first ones."""
+    ended = script if script[-1:] in (b"", b"\n") else script + b"\n"
+    return verdict(ended + b"====\n" + output)[0] in ((0,) if whole else (0, MISSING))
+
+
+def wrong_end(ran: Ran, whole: tuple[int, bytes, bytes], script: bytes) -> str | None:
+    """What is wrong with the end of a run of a script with less memory, beside the end that it has with enough, or None.
+
+    A background step beside a FETCH that finds no memory is left out, and no answer tells it. So the transcript may be another
+    one, or a front of such a one, of which the rules in words have to say that it is legal."""
     status, output, words = whole
     if (ran.status, ran.output, ran.words) == whole:
         return None
-    if ran.status != 4 or ran.words != b"no memory\n":
+    if (ran.status, ran.words) not in ((0, b""), (4, b"no memory\n")):
         return f"status {ran.status}, {len(ran.output)} bytes, {ran.words[-200:]!r}"
     if not ran.refused:
-        return "status 4, and nothing was refused"
-    if not is_front(ran.output, output):
-        return f"status 4, and {len(ran.output)} bytes that are no front of the transcript"
-    return None
+        return f"status {ran.status}, and nothing was refused"
+    if ran.status == 4 and is_front(ran.output, output):
+        return None
+    if status == 0 and is_legal(ran.output, script, ran.status == 0):
+        return None
+    return f"status {ran.status}, and {len(ran.output)} bytes that are no {'legal transcript' if ran.status == 0 else 'front of a legal transcript'}"

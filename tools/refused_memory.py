@@ -2,7 +2,8 @@
 """Refuses each allocation of a run in turn, one a run, and looks at how the run ends.
 
 Needs a C compiler as `cc`. Each run has to end with status 0 and the transcript, or with status 4, `no memory` on
-standard error and the transcript of the first calls. The last run is the one that makes fewer allocations than the
+standard error and the transcript of the first calls; where a background step beside a FETCH found no memory, of another
+transcript that is legal. The last run is the one that makes fewer allocations than the
 number of the one refused. With --rooms N the run has a room in bytes instead, N times, evenly from nothing to all that
 it takes. Prints how many runs there were and how they ended; status 1 where one ended otherwise."""
 import argparse
@@ -39,7 +40,7 @@ def main():
         for limit in limits:
             runs += 1
             ran = shim.run(command, script, **limit)
-            what = wrong_end(ran, (whole.status, whole.output, whole.words))
+            what = wrong_end(ran, (whole.status, whole.output, whole.words), script)
             if what is not None:
                 wrong += 1
                 print(f"{limit}: {what}")

@@ -135,7 +135,7 @@ class Database:
         self.write("--" if judge is None else f"-- {judge}")
 
 
-def open(judge: int = 0, steps: int = 1, race: bool = False, program: str | None = None, model: bool = False) -> Database:
+def open(judge: int | str = 0, steps: int = 1, race: bool = False, program: str | None = None, model: bool = False) -> Database:
     """A new database: over ./rvdyn, or a built program, or the slow model, which needs no kit. What else can be asked is as on the command
     line."""
     command = [program] if program else [str(TOP / "rvdyn")]

@@ -31,8 +31,7 @@ import rvdyn
 from check_script import of_syntax
 from ending import end
 from model.language import KEYWORDS, Mark, Syntax, calls_of, fault_of, read_statement
-from model.program import Session
-from slow_program import add_run_options
+from slow_program import add_run_options, session
 
 HISTORY = os.path.expanduser("~/.rvdyn_history")
 
@@ -65,7 +64,7 @@ class Engine(Protocol):
 class Program:
     """The program, in a process of its own."""
 
-    def __init__(self, judge: int, steps: int, race: bool, program: str | None):
+    def __init__(self, judge: int | str, steps: int, race: bool, program: str | None):
         self.database = rvdyn.open(judge, steps, race, program)
         self.mark, self.close = self.database.mark, self.database.close
 
@@ -73,8 +72,12 @@ class Program:
         return self.database.reply(text, session)
 
 
-class Model(Session):
+class Model:
     """The slow model."""
+
+    def __init__(self, judge: int | str = 0, steps: int = 1, plain: bool = False, race: bool = False):
+        made = session(judge, steps, plain, race=race)
+        self.call, self.mark = made.call, made.mark
 
     def close(self) -> None:
         pass
@@ -274,7 +277,7 @@ def main() -> int:
 
     def start() -> Engine:
         if words.model or words.plain:
-            return Model(words.judge, words.steps, words.plain, race=words.race)
+            return Model(words.judge, words.steps, words.plain, words.race)
         return Program(words.judge, words.steps, words.race, words.program)
 
     shell = Shell(start, sys.stdout)

@@ -14,7 +14,11 @@ from typing import BinaryIO
 
 from ending import end
 from model.language import calls_of, fault_of, fault_of_line
-from model.program import Session, generated, run, summary, transcript
+from model.program import Session, generated, summary, transcript
+
+# The judges by their names, each in the place of its number: the supplied ones, and those of crates/skew_judges.
+SUPPLIED = ["threshold", "patient", "contrary"]
+OWN = ["bounded", "all-rows", "first-rows"]
 
 
 def number_up_to(most: int):
@@ -26,9 +30,26 @@ def number_up_to(most: int):
     return number
 
 
+def judge_of(word: str) -> int | str:
+    """A judge by its number, or its name where it is none of the supplied ones."""
+    return SUPPLIED.index(word) if word in SUPPLIED else word if word in OWN else number_up_to(2)(word)
+
+
+def session(judge: int | str, steps: int, plain: bool = False, log: list | None = None, race: bool = False) -> Session:
+    """A run that begins under a judge. Where it begins under one of crates/skew_judges, marks name these by number."""
+    if judge not in OWN:
+        return Session(judge, steps, plain, log, race)
+    from named_judges import Told  # (which few runs need, and takes longer to read than all else)
+
+    run = Session()
+    run.engine = Told(OWN.index(judge), steps, plain, log, race)
+    return run
+
+
 def add_run_options(parser: argparse.ArgumentParser) -> None:
     """The words of the program that say how a script is run."""
-    parser.add_argument("--judge", type=number_up_to(2), default=0, metavar="N", help="the judge that rules first, 0 to 2 (default 0)")
+    parser.add_argument("--judge", type=judge_of, default=0, metavar="N",
+                        help=f"the judge that rules first, 0 to 2 (default 0), or by its name: {', '.join(SUPPLIED + OWN)}")
     parser.add_argument("--steps", type=number_up_to(64), default=1, metavar="K", help="background steps beside each foreground step, 0 to 64 (default 1)")
     parser.add_argument("--race", action="store_true", help="two indexes race where they can")
     parser.add_argument("--plain", action="store_true", help="over the plain store, whose indexes are sorted lists")
@@ -57,20 +78,21 @@ def main() -> int:
     words = parser.parse_args()
     if words.line and words.gen is not None:
         parser.error("--line reads lines, and --gen reads nothing")
+    made = session(words.judge, words.steps, words.plain, race=words.race)
     if words.line:
-        fault = serve(Session(words.judge, words.steps, words.plain, race=words.race), sys.stdin.buffer, sys.stdout.buffer)
+        fault = serve(made, sys.stdin.buffer, sys.stdout.buffer)
         if fault is not None:
             print(fault[1], file=sys.stderr)
         return fault[0] if fault else 0
     if words.gen is not None:
-        sys.stdout.write(summary(reply for _, _, reply in run(generated(words.gen), words.judge, words.steps, words.plain, words.race)))
+        sys.stdout.write(summary(reply for _, reply in made.run(calls_of(generated(words.gen)))))
         return 0
     data = sys.stdin.buffer.read()
     fault = fault_of(data)
     if fault is not None:
         print(fault[1], file=sys.stderr)
         return fault[0]
-    sys.stdout.write(transcript(run(data.decode(), words.judge, words.steps, words.plain, words.race)))
+    sys.stdout.write(transcript((call.session, call.text, reply) for call, reply in made.run(calls_of(data.decode()))))
     return 0
 
 

@@ -20,12 +20,9 @@ from typing import Iterable
 from check_script import of_fault
 from ending import end
 from model.language import Call, Mark, calls_of, fault_of, statement
-from model.program import Session
 from model.retrieval import Ruling
-from slow_program import number_up_to
+from slow_program import SUPPLIED, judge_of, number_up_to, session
 from timeline_picture import picture
-
-JUDGES = ("threshold", "patient", "contrary")
 
 
 @dataclass(frozen=True)
@@ -85,11 +82,11 @@ class Sought:
         return any(found[name] < least for name in self.names or (None,))
 
 
-def courses_of(script: str, sought: Sought, judge: int | None, steps: int, race: bool = False) -> list[Course]:
+def courses_of(script: str, sought: Sought, judge: int | str | None, steps: int, race: bool = False) -> list[Course]:
     """The course of each cursor that is looked for, until it is closed or the script ends. A judge that is given rules the
     whole run."""
     log: list[tuple] = []
-    run = Session(judge or 0, steps, log=log, race=race)
+    run = session(judge or 0, steps, log=log, race=race)
     courses: list[Course] = []
     present: dict[tuple[int, str], Course] = {}  # those that are open
     found: Counter[str | None] = Counter()
@@ -107,7 +104,7 @@ def courses_of(script: str, sought: Sought, judge: int | None, steps: int, race:
             if sought.fits(*key):
                 found[sought.key(said[1])] += 1
                 if not sought.numbers or found[sought.key(said[1])] in sought.numbers:
-                    present[key] = Course(JUDGES[run.engine.judge], call)
+                    present[key] = Course(judge if isinstance(judge, str) else SUPPLIED[run.engine.judge], call)
                     courses.append(present[key])
         if key in present:
             present[key].steps.append(Step(call.line, call.text, reply, list(log)))
@@ -247,7 +244,7 @@ def main() -> int:
     parser.add_argument("--cursor", type=str.upper, action="append", default=[], metavar="NAME", help="a cursor's name (default: any); may be said again for others")
     parser.add_argument("--opening", type=positive, action="append", default=[], metavar="N", help="the Nth opening that fits, of each name (default 1); may be said again for others")
     parser.add_argument("--all", action="store_true", help="each opening that fits")
-    parser.add_argument("--judge", type=number_up_to(2), action="append", metavar="N", help="the judge of the whole run; twice for two side by side")
+    parser.add_argument("--judge", type=judge_of, action="append", metavar="N", help="the judge of the whole run, by its number or its name, as bounded; twice for two side by side")
     parser.add_argument("--steps", type=number_up_to(64), default=1, metavar="K", help="as the program's --steps (default 1)")
     parser.add_argument("--race", action="store_true", help="as the program's --race")
     parser.add_argument("--svg", metavar="FILE", help="also write the courses as one picture")

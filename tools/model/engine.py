@@ -124,7 +124,7 @@ class Asked:
         return [n for n in range(page * PAGE, (page + 1) * PAGE) if n in self.query.rows]
 
     def rule(self, projected, guaranteed):
-        return self.judges.rule(projected, guaranteed)
+        return self.judges.rule(projected, guaranteed, self)
 
     def note(self, kind, what):
         if self.log is not None:
@@ -256,7 +256,8 @@ class Engine(Database):
         self.entries = {}  # of each index, at the last commit
         self.seen = {}  # by session: pages and entries at its base
 
-    def rule(self, projected, guaranteed):
+    def rule(self, projected, guaranteed, retrieval):
+        """The verdict of the judge that rules, which goes by the two numbers alone."""
         return self.judges[self.judge].rule(projected, guaranteed)
 
     def index(self, name, table, columns, unique=False):

@@ -104,17 +104,30 @@ class Found(unittest.TestCase):
 
 
 class LessMemory(unittest.TestCase):
-    WHOLE = (0, b"1 BEGIN\n= began 1\n", b"")
+    SCRIPT = b"1 BEGIN\n1 COMMIT\n"
+    WHOLE = (0, b"1 BEGIN\n= began 1\n1 COMMIT\n= committed 0\n", b"")
+
+    def wrong(self, status: int, output: bytes, words: bytes = b"", refused: int = 1, whole=WHOLE) -> str | None:
+        return wrong_end(Ran(status, output, words, 9, 9, refused), whole, self.SCRIPT)
 
     def test_ends(self):
         self.assertTrue(is_front(b"", self.WHOLE[1]))
         self.assertFalse(is_front(b"1 BEGIN\n", self.WHOLE[1]))
-        self.assertIsNone(wrong_end(Ran(*self.WHOLE, 9, 9, 0), self.WHOLE))
-        self.assertIsNone(wrong_end(Ran(4, b"", b"no memory\n", 9, 9, 1), self.WHOLE))
-        self.assertIn("nothing was refused", wrong_end(Ran(4, b"", b"no memory\n", 9, 9, 0), self.WHOLE))
-        self.assertIn("no front", wrong_end(Ran(4, b"1 BEGIN\n", b"no memory\n", 9, 9, 1), self.WHOLE))
-        self.assertIn("status -6", wrong_end(Ran(-6, b"", b"", 9, 9, 1), self.WHOLE))
-        self.assertIn("status 0", wrong_end(Ran(0, b"", b"", 9, 9, 1), self.WHOLE))
+        self.assertIsNone(self.wrong(*self.WHOLE, refused=0))
+        self.assertIsNone(self.wrong(4, b"", b"no memory\n"))
+        self.assertIn("nothing was refused", self.wrong(4, b"", b"no memory\n", refused=0))
+        self.assertIn("no front", self.wrong(4, b"1 BEGIN\n", b"no memory\n"))
+        self.assertIn("status -6", self.wrong(-6, b""))
+        self.assertIn("status 0", self.wrong(0, b""))
+
+    def test_another_transcript_has_to_be_legal(self):
+        other = (0, self.WHOLE[1] + b"1 ROLLBACK\n= no transaction\n", b"")
+        self.assertIsNone(self.wrong(0, self.WHOLE[1], whole=other))
+        self.assertIn("nothing was refused", self.wrong(0, self.WHOLE[1], refused=0, whole=other))
+        self.assertIsNone(self.wrong(4, b"1 BEGIN\n= began 1\n", b"no memory\n", whole=(0, b"1 BEGIN\n= began 2\n", b"")))
+        self.assertIn("no front", self.wrong(4, b"1 BEGIN\n= began 2\n", b"no memory\n"))
+        self.assertIn("no legal transcript", self.wrong(0, b"1 BEGIN\n= began 1\n"))
+        self.assertIn("status 0", self.wrong(0, self.WHOLE[1], whole=(1, b"", b"usage")))
 
     @unittest.skipUnless(shutil.which("cc"), "there is no C compiler")
     def test_shim(self):

@@ -33,6 +33,15 @@ class Tables(unittest.TestCase):
     def test_own_judge(self):
         self.is_written("own_judge", [], (CRATES / "own_judge" / "stdin").read_bytes(), "stdout")
 
+    def test_judges_of_another_program(self):
+        # its words are --judge 1, and of its judges that is the one for all rows
+        script = (CRATES / "skew_cli" / "stdin").read_bytes()
+        self.has("skew_cli", "stdout", self.written("slow_program", ["--judge", "all-rows"], script))
+
+    def test_own_sessions(self):
+        for between in ("0", "7"):
+            self.is_written("own_sessions", ["--between", between], b"", "stdout")
+
 
 if __name__ == "__main__":
     unittest.main()

@@ -53,6 +53,12 @@ class Timeline(unittest.TestCase):
         self.assertIn("projected 22, guaranteed 20: drop", told)
         self.assertIn("reads pages 0-9", told)
 
+    def test_judge_by_its_name(self):
+        script = (TOP / "examples/sunk-leaves").read_text(encoding="utf-8")
+        (course,) = courses_of(script, Sought(1, ("C",), (1,)), "bounded", 1)
+        self.assertEqual((course.judge, sum(step.cost for step in course.steps)), ("bounded", 28))
+        self.assertTrue(course.trace.endswith("final-table done pages 20 leaves 8 fetches 0"), course.trace)
+
     def test_two_judges_side_by_side(self):
         lines = text([self.threshold, self.patient], 64).split("\n")
         self.assertTrue(lines[2].startswith("judge threshold"))

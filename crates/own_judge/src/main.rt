@@ -9,6 +9,7 @@ mod share;
 use crate::share::Share;
 use rv_io::{Sink, Source, StdSink, StdSource};
 use rv_judge::{Judge, Patient, Threshold};
+use rv_lending::let_go;
 use rv_run::{Status, run_plain};
 use rv_store::Paged;
 use rv_value::NoMemory;
@@ -60,6 +61,6 @@ fn run_shared<S: Source, K: Sink>(
     judges.push(Box::new(alloc, Patient::new())?)?;
     let store = Paged::new(alloc)?;
     let ran = run_plain(alloc, store, &[], source, sink, judges);
-    drop(ran.core);
+    let_go(ran.core);
     Ok(ran.status)
 }

@@ -148,7 +148,7 @@ stops_once bytes n m a b = by (cases_lt n m) (cases_lt m n)
     by (inr ge) (inl less) = absurd (not_sooner bytes m n b a less)
     by (inr ge) (inr le) = omega (arith, ge, le)
 
-plain_of : (es : List Entry) → AreReadable es → AllByRecursion IsPlain es
+pub plain_of : (es : List Entry) → AreReadable es → AllByRecursion IsPlain es
 plain_of [] h = tt
 plain_of (e ∷ es) h = (h.0.plain, plain_of es h.1)
 
@@ -186,7 +186,7 @@ transcript_once tells script transcript a b x y = by (two script transcript a x)
 err_once : (r : Result Script ScriptFault) (f g : ScriptFault) → r ≡ Err f → r ≡ Err g → f ≡ g
 err_once r f g p q = (let e : ◌≡◌ {A = Result Script ScriptFault} (Err f) (Err g) = sym p ∙ q in cc)
 
-ok_once : (r : Result Script ScriptFault) (f g : Script) → r ≡ Ok f → r ≡ Ok g → f ≡ g
+pub ok_once : (r : Result Script ScriptFault) (f g : Script) → r ≡ Ok f → r ≡ Ok g → f ≡ g
 ok_once r f g p q = (let e : ◌≡◌ {A = Result Script ScriptFault} (Ok f) (Ok g) = sym p ∙ q in cc)
 
 not_both : {X : Type 0} (r : Result Script ScriptFault) (f : ScriptFault) (g : Script) → r ≡ Err f → r ≡ Ok g → X

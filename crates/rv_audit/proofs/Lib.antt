@@ -5,6 +5,7 @@ pub mod Concluding
 pub mod Ending
 pub mod Fronts
 pub mod Gathering
+pub mod Held
 pub mod Making
 pub mod Marking
 pub mod Phases

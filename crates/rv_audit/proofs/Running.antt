@@ -1,4 +1,4 @@
--- What a run writes is judged legal.
+-- What a run writes is judged legal, and tells the run's history.
 use Rattle.std.proofs.Common.{◌≡◌, ℕ, ◌+◌, List, [], ◌∷◌, ◌++◌, Bool, true, false, not, ◌&&◌, ◌==◌, cond, if◌then◌else◌, Option, Some, None, Result, Ok, Err, IsOkAnd, IsUtf8, All, inl, inr, refl, ap, sym, subst, ◌∙◌, length, map, bytes_eq, codes, eqb, eqb-true, nat_eq, nat_lt, append-nil, ◌≤◌}
 use Rattle.std.specs.List.{list_all, slice_split, AllByRecursion}
 use Rattle.std.specs.Str.Lines.{lines, lines_of_parts, strip_carriage_return}
@@ -6,6 +6,7 @@ use Rattle.std.specs.Str.Lossy.{utf8_valid_len}
 use Rattle.std.proofs.lemmas.Bool.{cases_Bool, and_parts, not-true, or_cases}
 use Rattle.std.proofs.lemmas.List.Elements.{All-cons, All-nil}
 use Rattle.std.proofs.lemmas.List.Splits.{slice_split_at}
+use Rattle.std.proofs.lemmas.Option.{same_Some}
 use Rattle.std.proofs.lemmas.Slice.Eq.{bytes_eq-Decides}
 use Rattle.std.proofs.lemmas.Str.{IsUtf8-past_char}
 use Rattle.rv_script.specs.declared.scripts.Line.{Line}
@@ -15,7 +16,7 @@ use Rattle.rv_script.specs.declared.scripts.ScriptFault.{ScriptFault}
 use Rattle.rv_script.specs.declared.scripts.ScriptFault.TheVariants as faults
 use Rattle.rv_script.specs.Script.{Saying, phases_of, says_at, saying_before, sayings_from, script_of, script_said, without_byte_order_mark}
 use Rattle.rv_model.specs.declared.entry.Entry.{Entry}
-use Rattle.rv_model.specs.Transcript.{text, AllSameButPhase, IsLine}
+use Rattle.rv_model.specs.Transcript.{text, AllSameButPhase, IsLine, TextTells}
 use Rattle.rv_believed.specs.History.{IsLegal}
 use Rattle.rv_run.specs.Script as runs
 use Rattle.rv_run.specs.Script.{HasAllCalls, Write}
@@ -24,13 +25,14 @@ use Rattle.rv_text.specs.Reading.{AreReadable}
 use Rattle.rv_text.proofs.Cutting.{lines_of, split_line, split_unsplit, split_whole, unsplit, AreLines}
 use Rattle.rv_audit.specs.declared.auditing.Audited.TheVariants as audited
 use Rattle.rv_audit.specs.declared.calls.Call.{Call}
-use Rattle.rv_audit.specs.Auditing.{Audits, Says, SaysBehindScript}
+use Rattle.rv_audit.specs.Auditing.{Says, SaysBehindScript}
 use Rattle.rv_audit.specs.Calls.{call_in, calls_by, calls_from, calls_in}
 use Rattle.rv_audit.specs.Following.{HasAll, IsWhole}
 use Rattle.rv_audit.specs.Marks.{behind_line, is_mark, parted, parted_lines, Parted}
-use Rattle.rv_audit.specs.Places.{AreSessions}
-use Rattle.rv_audit.specs.Runs.{AreWholeLines, HasPlainReply, RunsAreLegal}
-use Rattle.rv_audit.proofs.Making.{call_by, calls_is, made, sessions_of}
+use Rattle.rv_audit.specs.Runs.{AreHeld, AreWholeLines, IsOfRun, RunsAreLegal, RunsAreTold}
+use Rattle.rv_audit.proofs.Alone.{ok_once, plain_of}
+use Rattle.rv_audit.proofs.Held.{readable}
+use Rattle.rv_audit.proofs.Making.{call_by, calls_is, determined, made, sessions_of}
 use Rattle.rv_audit.proofs.Marking.{ended_whole, parts}
 use Rattle.rv_audit.proofs.Phases.{asked_of, texts}
 use Rattle.rv_audit.proofs.Texts.{history_texts, lines_text, strip_texts, utf8_of, AreTexts, IsText}
@@ -237,17 +239,6 @@ read_texts bytes script h whole is calls = by (utf8_valid_len bytes == length by
     by true u (Err fault) said e = absurd (cc)
     by false u r said e = absurd (cc)
 
-readable : (h : List Entry) → AreSessions h → AllByRecursion (λ (e : Entry). IsText e.text) h → AllByRecursion HasPlainReply h → AreReadable h
-readable [] sessions texts replies = tt
-readable (e ∷ es) sessions texts replies = (
-  record {
-    plain = record { from = sessions.0.0; to = sessions.0.1; asked = texts.0.0; answered = replies.0.0 };
-    call = texts.0.1;
-    reply = replies.0.1;
-  },
-  readable es sessions.1 texts.1 replies.1,
-)
-
 -- ---- the input is parted behind the script
 
 lines_parted : (ls : List (List ℕ)) (transcript : List ℕ) → HaveNoMark ls → parted_lines (ls ++ codes "====" ∷ (split transcript).lines) (split transcript).rest ≡ Some (parts (unsplit ls) transcript)
@@ -271,25 +262,63 @@ marked_parted bytes transcript whole none =
 
 -- ---- the law
 
-said_legal : (bytes : List ℕ) (script : Script) (history : List Entry) → length bytes ≤ 16777216 → AreWholeLines bytes → script_of bytes ≡ Ok script → HasAllCalls history script → IsLegal history → AllByRecursion HasPlainReply history
-    → SaysBehindScript bytes (text history) (audited.Legal (length history))
-said_legal bytes script history few lines is all legal replies =
-    let whole : IsWhole script history = record { history = history; same = same_itself history; legal = legal; all = has_all history script all } in
-    record {
-      has = record { few = few; script = script; is = is };
-      said = record { entries = history; written = record { readable = readable history (sessions_of history legal) (read_texts bytes script history lines is all) replies; is = refl }; said = (whole, refl) };
-    }
+-- what an input of a run's is
+record Shown (history : List Entry) (input : List ℕ) : Type 0 where
+  bytes : List ℕ
+  few : length bytes ≤ 16777216
+  script : Script
+  is : script_of bytes ≡ Ok script
+  all : HasAllCalls history script
+  parted_so : parted input ≡ Some (parts bytes (text history))
+  readable : AreReadable history
 
-marked_legal : (bytes : List ℕ) (history : List Entry) → AreWholeLines bytes → IsLegal history → Write bytes (HasAllCalls history) → AllByRecursion HasPlainReply history
-    → Audits (bytes ++ (codes "====\n" ++ text history)) (audited.Legal (length history))
-marked_legal bytes history whole legal writes replies = by (script_of bytes) refl writes.script
+shown : (history : List Entry) → AreHeld history → (input : List ℕ) → IsOfRun history input → Shown history input
+shown history held input run = by (script_of run.script) refl run.wrote.calls.script
   where
-    by : (r : Result Script ScriptFault) → script_of bytes ≡ r → IsOkAnd r (HasAllCalls history) → Audits (bytes ++ (codes "====\n" ++ text history)) (audited.Legal (length history))
+    by : (r : Result Script ScriptFault) → script_of run.script ≡ r → IsOkAnd r (HasAllCalls history) → Shown history input
     by (Ok script) is all =
-        subst (λ (o : Option Parted). Says o (audited.Legal (length history))) (sym (marked_parted bytes (text history) whole (no_marks bytes whole (said_of bytes script is))))
-        (said_legal bytes script history writes.few whole is all legal replies)
+        let asked = read_texts run.script script history run.lines is all in
+        let written : run.transcript ≡ text history = run.wrote.written in
+        let input_is : input ≡ run.script ++ (codes "====\n" ++ text history) = run.is ∙ ap (λ (t : List ℕ). run.script ++ (codes "====\n" ++ t)) written in
+        record {
+          bytes = run.script;
+          few = run.wrote.calls.few;
+          script = script;
+          is = is;
+          all = all;
+          parted_so = ap parted input_is ∙ marked_parted run.script (text history) run.lines (no_marks run.script run.lines (said_of run.script script is));
+          readable = readable history run.wrote.legal asked held;
+        }
     by (Err fault) is all = absurd all
 
+said_legal : (history : List Entry) (input : List ℕ) → IsLegal history → (s : Shown history input) → SaysBehindScript s.bytes (text history) (audited.Legal (length history))
+said_legal history input legal s =
+    let whole : IsWhole s.script history = record { history = history; same = same_itself history; legal = legal; all = has_all history s.script s.all } in
+    record {
+      has = record { few = s.few; script = s.script; is = s.is };
+      said = record { entries = history; written = record { readable = s.readable; is = refl }; said = (whole, refl) };
+    }
+
 pub runs_are_legal : RunsAreLegal
-runs_are_legal input run =
-    subst (λ (bytes : List ℕ). Audits bytes (audited.Legal (length run.history))) (sym run.is) (marked_legal run.script run.history run.lines run.legal run.calls run.replies)
+runs_are_legal history held input run =
+    let s = shown history held input run in
+    subst (λ (o : Option Parted). Says o (audited.Legal (length history))) (sym s.parted_so) (said_legal history input run.wrote.legal s)
+
+-- ---- one history alone
+
+made_same : (a b : List Entry) (script : Script) → HasAllCalls a script → HasAllCalls b script → (s : ℕ) → made s a ≡ made s b
+made_same a b script all_a all_b s = sym (made_is s a) ∙ ap (map call_of) (all_a s ∙ sym (all_b s)) ∙ made_is s b
+
+one_history : TextTells → (a b : List Entry) (input : List ℕ) → IsLegal a → Shown a input → Shown b input → a ≡ b
+one_history tells a b input legal x y =
+    let cut = same_Some (parts x.bytes (text a)) (parts y.bytes (text b)) (sym x.parted_so ∙ y.parted_so) in
+    let same_bytes : x.bytes ≡ y.bytes = ap (λ (p : Parted). p.script) cut in
+    let same_text : text a ≡ text b = ap (λ (p : Parted). p.transcript) cut in
+    let scripts = ok_once (script_of y.bytes) x.script y.script (subst (λ (bs : List ℕ). script_of bs ≡ Ok x.script) same_bytes x.is) y.is in
+    let all = subst (HasAllCalls b) (sym scripts) y.all in
+    let same = tells a b (plain_of a x.readable) (plain_of b y.readable) same_text in
+    (determined a b (λ s. []) (λ s. []) (sessions_of a legal) same (λ s from to. ap (λ (cs : List Call). cs ++ []) (made_same a b x.script x.all all s))).entries
+
+pub runs_are_told : TextTells → RunsAreTold
+runs_are_told tells one other held_one held_other input run_one run_other =
+    one_history tells one other input run_one.wrote.legal (shown one held_one input run_one) (shown other held_other input run_other)

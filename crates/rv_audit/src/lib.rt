@@ -4,6 +4,7 @@
 pub mod auditing;
 pub mod calls;
 pub mod following;
+pub mod holding;
 pub mod laws;
 pub mod marks;
 

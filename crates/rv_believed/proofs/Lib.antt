@@ -29,7 +29,7 @@ mod StepSame
 mod TablesThere
 mod TakenStates
 mod Texts
-mod Told
+pub mod Told
 mod TransactionsOfState
 mod TruthSame
 mod UniqueRows

@@ -79,7 +79,7 @@ entries_work : (es : List Entry) → AllByRecursion IsPlain es → AllByRecursio
 entries_work [] p h = tt
 entries_work (e ∷ es) p h = (record { from = p.0.from; to = p.0.to; asked = p.0.asked.line; answered = reply_works e.reply p.0.answered h.0 }, entries_work es p.1 h.1)
 
-program_works : (es : List Entry) → IsOfProgram es → AllByRecursion working.IsPlain es
+pub program_works : (es : List Entry) → IsOfProgram es → AllByRecursion working.IsPlain es
 program_works es is = entries_work es (plain_entries es is.legal is.lines) is.held
 
 pub transcript_tells : working.TextTells → TranscriptTells

@@ -11,6 +11,7 @@ use Rattle.rv_judge.specs.declared.events.Happening.{Happening}
 use Rattle.rv_judge.specs.Course.{Row, course, next_by, next_control}
 use Rattle.rv_retrieval.specs.Opens.{first_of}
 use Rattle.rv_retrieval.specs.Shape.{is_led}
+use Rattle.rv_retrieval.proofs.Courses.{goes_lower, may_lead}
 
 -- no foreground scans an index
 abbrev pub is_behind : Strategy → Control → Bool
@@ -62,3 +63,43 @@ first_behind FastFirst some led = refl
 first_behind Sorted some led = absurd (cc)
 first_behind IndexOnly some led = absurd (cc)
 first_behind Union some led = refl
+
+-- no foreground runs
+abbrev pub is_apart : Control → Bool
+is_apart Building = false
+is_apart ForegroundAlone = false
+is_apart BackgroundAlone = true
+is_apart FinalList = true
+is_apart FinalTable = true
+is_apart Done = true
+
+stays_apart : (c d : Control) → may_lead c d ≡ true → is_apart c ≡ true → is_apart d ≡ true
+stays_apart Building d l b = no_other b
+stays_apart ForegroundAlone d l b = no_other b
+stays_apart BackgroundAlone Building l b = l
+stays_apart BackgroundAlone ForegroundAlone l b = l
+stays_apart BackgroundAlone BackgroundAlone l b = refl
+stays_apart BackgroundAlone FinalList l b = refl
+stays_apart BackgroundAlone FinalTable l b = refl
+stays_apart BackgroundAlone Done l b = refl
+stays_apart FinalList Building l b = l
+stays_apart FinalList ForegroundAlone l b = l
+stays_apart FinalList BackgroundAlone l b = refl
+stays_apart FinalList FinalList l b = refl
+stays_apart FinalList FinalTable l b = refl
+stays_apart FinalList Done l b = refl
+stays_apart FinalTable Building l b = l
+stays_apart FinalTable ForegroundAlone l b = l
+stays_apart FinalTable BackgroundAlone l b = refl
+stays_apart FinalTable FinalList l b = refl
+stays_apart FinalTable FinalTable l b = refl
+stays_apart FinalTable Done l b = refl
+stays_apart Done Building l b = l
+stays_apart Done ForegroundAlone l b = l
+stays_apart Done BackgroundAlone l b = refl
+stays_apart Done FinalList l b = refl
+stays_apart Done FinalTable l b = refl
+stays_apart Done Done l b = refl
+
+pub goes_apart : (s : Strategy) (c : Control) (h : Happening) → is_apart c ≡ true → is_apart (next_control s c h) ≡ true
+goes_apart s c h b = stays_apart c (next_control s c h) (goes_lower s c h) b

@@ -43,12 +43,12 @@ give_spends p planned would state after piece (Stale asked now) old new rule w a
 
 -- ONE CALL
 
-does_call : (p planned : ℕ) (call : Call) (would : ℕ → Facts → Ruling) (old new : Shape) → p + 2 * planned < greatest → IsBounded would → Within p planned old → DoesCall call would old new → Spends p (lost_of call) old new
-does_call p planned Step would old new small rule w does = step_spends p planned would old new small rule w does
-does_call p planned StepLost would old new small rule w does = step_lost p planned old new small w does
-does_call p planned Take would old new small rule w does = take_spends p planned does.0 old new small w does.1
-does_call p planned TakeLost would old new small rule w does = take_lost p planned old new small w does
-does_call p planned Give would old new small rule w does = give_spends p planned would does.state does.after does.piece does.given old new rule w does.answers does.obeys
+does_call : (p planned : ℕ) (shown : Shown) (call : Call) (would : ℕ → Facts → Ruling) (old new : Shape) → p + 2 * planned < greatest → IsBounded would → Within p planned old → DoesCall call would shown old new → Spends p (lost_of call) old new
+does_call p planned shown Step would old new small rule w does = step_spends p planned would shown old new small rule w does
+does_call p planned shown StepLost would old new small rule w does = step_lost p planned shown old new small w does
+does_call p planned shown Take would old new small rule w does = take_spends p planned does.0 shown old new small w does.1
+does_call p planned shown TakeLost would old new small rule w does = take_lost p planned shown old new small w does
+does_call p planned shown Give would old new small rule w does = give_spends p planned would does.state does.after does.piece does.given old new rule w does.answers does.obeys
 
 -- ALL CALLS
 
@@ -59,11 +59,11 @@ record AllSpend (p planned lost : ℕ) (old new : Shape) : Type 0 where
 add_lost : (now mid was lost more : ℕ) → mid ≤ was + lost → now ≤ mid + more → now ≤ was + (lost + more)
 add_lost now mid was lost more h g = omega (arith, h, g)
 
-all_spend : (p planned : ℕ) (calls : List Call) (old new : Shape) → p + 2 * planned < greatest → Within p planned old → DoesAll calls old new → AllSpend p planned (lost_by calls) old new
-all_spend p planned [] old new small w does = subst (AllSpend p planned 0 old) (sym does) (record { within = w; fewer = still_sum old.trace.leaves (ahead p old.joint) })
-all_spend p planned (call ∷ calls) old new small w does =
-    let before = all_spend p planned calls old does.0 small w does.1 in
-    let last = does_call p planned call does.2.would does.0 new small does.2.bounded before.within does.2.does in
+all_spend : (p planned : ℕ) (shown : Shown) (calls : List Call) (old new : Shape) → p + 2 * planned < greatest → Within p planned old → DoesAll calls shown old new → AllSpend p planned (lost_by calls) old new
+all_spend p planned shown [] old new small w does = subst (AllSpend p planned 0 old) (sym does) (record { within = w; fewer = still_sum old.trace.leaves (ahead p old.joint) })
+all_spend p planned shown (call ∷ calls) old new small w does =
+    let before = all_spend p planned shown calls old does.0 small w does.1 in
+    let last = does_call p planned shown call does.2.would does.0 new small does.2.bounded before.within does.2.does in
     record {
       within = within_on p planned does.0 new last.stays before.within;
       fewer = add_lost (new.trace.leaves + ahead p new.joint) (does.0.trace.leaves + ahead p does.0.joint) (old.trace.leaves + ahead p old.joint) (lost_by calls) (lost_of call) before.fewer last.fewer;
@@ -77,16 +77,16 @@ risen_most now risen most e = omega (arith, e)
 same_most : (now was most : ℕ) → now ≡ was → was ≤ most → now ≤ most
 same_most now was most e h = omega (arith, e, h)
 
-call_counted : (call : Call) (would : ℕ → Facts → Ruling) (old new : Shape) → DoesCall call would old new → old.trace.leaves ≤ greatest → new.trace.leaves ≤ greatest
-call_counted Step would old new does most = risen_most new.trace.leaves (does.does.stepped.trace.leaves + (does.behind.leaves - does.before.leaves)) greatest (ap (λ (x : Shape). x.trace.leaves) does.does.counts)
-call_counted StepLost would old new does most = risen_most new.trace.leaves (old.trace.leaves + (does.behind.leaves - does.before.leaves)) greatest does.counts.leaves
-call_counted Take would old new does most = risen_most new.trace.leaves (old.trace.leaves + (does.1.behind.leaves - does.1.before.leaves)) greatest does.1.counts.leaves
-call_counted TakeLost would old new does most = risen_most new.trace.leaves (old.trace.leaves + (does.behind.leaves - does.before.leaves)) greatest does.counts.leaves
-call_counted Give would old new does most = same_most new.trace.leaves old.trace.leaves greatest does.counts.leaves most
+call_counted : (call : Call) (would : ℕ → Facts → Ruling) (shown : Shown) (old new : Shape) → DoesCall call would shown old new → old.trace.leaves ≤ greatest → new.trace.leaves ≤ greatest
+call_counted Step would shown old new does most = risen_most new.trace.leaves (does.does.stepped.trace.leaves + (does.behind.leaves - does.before.leaves)) greatest (ap (λ (x : Shape). x.trace.leaves) does.does.counts)
+call_counted StepLost would shown old new does most = risen_most new.trace.leaves (old.trace.leaves + (does.behind.leaves - does.before.leaves)) greatest does.counts.leaves
+call_counted Take would shown old new does most = risen_most new.trace.leaves (old.trace.leaves + (does.1.behind.leaves - does.1.before.leaves)) greatest does.1.counts.leaves
+call_counted TakeLost would shown old new does most = risen_most new.trace.leaves (old.trace.leaves + (does.behind.leaves - does.before.leaves)) greatest does.counts.leaves
+call_counted Give would shown old new does most = same_most new.trace.leaves old.trace.leaves greatest does.counts.leaves most
 
-all_counted : (calls : List Call) (old new : Shape) → DoesAll calls old new → old.trace.leaves ≤ greatest → new.trace.leaves ≤ greatest
-all_counted [] old new does most = subst (λ (x : Shape). x.trace.leaves ≤ greatest) (sym does) most
-all_counted (call ∷ calls) old new does most = call_counted call does.2.would does.0 new does.2.does (all_counted calls old does.0 does.1 most)
+all_counted : (calls : List Call) (shown : Shown) (old new : Shape) → DoesAll calls shown old new → old.trace.leaves ≤ greatest → new.trace.leaves ≤ greatest
+all_counted [] shown old new does most = subst (λ (x : Shape). x.trace.leaves ≤ greatest) (sym does) most
+all_counted (call ∷ calls) shown old new does most = call_counted call does.2.would shown does.0 new does.2.does (all_counted calls shown old does.0 does.1 most)
 
 -- AT OPENING
 
@@ -169,6 +169,6 @@ leaves_few query shown calls opened now opens does = by (nat_lt (p + 2 * planned
 
     by : (b : Bool) → nat_lt (p + 2 * planned) greatest ≡ b → now.trace.leaves ≤ p + 2 * planned + lost_by calls
     by true test =
-        let spent = all_spend p planned calls opened now (is_less (p + 2 * planned) greatest test) (opened_within query shown opened opens) does in
+        let spent = all_spend p planned shown calls opened now (is_less (p + 2 * planned) greatest test) (opened_within query shown opened opens) does in
         whole_sum now.trace.leaves (ahead p now.joint) opened.trace.leaves (ahead p opened.joint) (p + 2 * planned) (lost_by calls) spent.fewer none (opened_ahead p opens.cursor opens.opening opened starts)
-    by false test = great_sum now.trace.leaves greatest (p + 2 * planned) (lost_by calls) (all_counted calls opened now does (zero_most opened.trace.leaves greatest none)) (is_more (p + 2 * planned) greatest test)
+    by false test = great_sum now.trace.leaves greatest (p + 2 * planned) (lost_by calls) (all_counted calls shown opened now does (zero_most opened.trace.leaves greatest none)) (is_more (p + 2 * planned) greatest test)

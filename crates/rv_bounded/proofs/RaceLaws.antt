@@ -29,6 +29,7 @@ use Rattle.rv_reader.specs.declared.reader.Chunk.{Chunk}
 use Rattle.rv_jscan.specs.declared.jscan.Given.{Given}
 use Rattle.rv_jscan.specs.declared.jscan.Given.TheVariants.{Accepted, Stale}
 use Rattle.rv_jscan.specs.declared.jscan.ScanCounts.{ScanCounts}
+use Rattle.rv_jscan.specs.declared.jscan.ScanPlan.{ScanPlan}
 use Rattle.rv_jscan.specs.declared.jscan.Taken.{Taken}
 use Rattle.rv_jscan.specs.declared.jscan.Taken.TheVariants.{Piece, Nothing}
 use Rattle.rv_jscan.specs.Joint.{counts_at, no_counts}
@@ -38,7 +39,7 @@ use Rattle.rv_jscan.specs.Steps.{eight, held_next, leaf_counted, piece_counted}
 use Rattle.rv_race.specs.declared.running.Runner.{Runner}
 use Rattle.rv_race.specs.declared.running.Running.{Running}
 use Rattle.rv_race.specs.Given.{Answers, TakesLeaf, TakesPiece, counts_read, one_leaf, piece_read, reads_leaf, turn_lane, turn_scan}
-use Rattle.rv_race.specs.Opened.{DoesAs, MayRead, OnePiece, OnlyTakes, ended_by}
+use Rattle.rv_race.specs.Opened.{DoesAs, MayRead, OnePiece, OnlyTakes, Opened, ended_by}
 use Rattle.rv_race.specs.Raced.{Raced, racing, rows_of}
 use Rattle.rv_race.specs.Rulings.{GivesOn, Obeys, accepted, dropped, ended, facts_of, going_on, gone, index_at, kept_of, least_with, listed, more, narrowed_by, over, passed_on, recounted_by, ruled, scan_of, stopped, told_over}
 use Rattle.rv_race.specs.Ways.{advanced, first_two, has_next, turned}
@@ -72,7 +73,7 @@ racing_left p planned r on = ap (λ (b : Bool). if b then race_sum p planned r.c
 idle_left : (p planned : ℕ) (r : Raced) → racing r.control ≡ false → race_ahead p planned r ≡ 0
 idle_left p planned r off = ap (λ (b : Bool). if b then race_sum p planned r.counts r.running else 0) off
 
-only_racing : (c : Control) → racing c ≡ true → c ≡ BackgroundAlone
+pub only_racing : (c : Control) → racing c ≡ true → c ≡ BackgroundAlone
 only_racing Building b = no_other b
 only_racing ForegroundAlone b = no_other b
 only_racing BackgroundAlone b = refl
@@ -80,21 +81,21 @@ only_racing FinalList b = no_other b
 only_racing FinalTable b = no_other b
 only_racing Done b = no_other b
 
-not_racing : {X : Type 0} (b : Bool) → b ≡ true → b ≡ false → X
+pub not_racing : {X : Type 0} (b : Bool) → b ≡ true → b ≡ false → X
 not_racing true on off = absurd (cc)
 not_racing false on off = absurd (cc)
 
 -- Where the background ends no scan is under way.
 
-scans_over : (listed : Bool) → racing (next_control BackgroundOnly BackgroundAlone (ScanEnded false listed)) ≡ false
+pub scans_over : (listed : Bool) → racing (next_control BackgroundOnly BackgroundAlone (ScanEnded false listed)) ≡ false
 scans_over true = refl
 scans_over false = refl
 
-scan_dropped : (listed : Bool) → racing (next_control BackgroundOnly BackgroundAlone (Ruled AbandonScan false listed)) ≡ false
+pub scan_dropped : (listed : Bool) → racing (next_control BackgroundOnly BackgroundAlone (Ruled AbandonScan false listed)) ≡ false
 scan_dropped true = refl
 scan_dropped false = refl
 
-all_dropped : (more listed : Bool) → racing (next_control BackgroundOnly BackgroundAlone (Ruled AbandonBackground more listed)) ≡ false
+pub all_dropped : (more listed : Bool) → racing (next_control BackgroundOnly BackgroundAlone (Ruled AbandonBackground more listed)) ≡ false
 all_dropped more true = refl
 all_dropped more false = refl
 
@@ -183,7 +184,7 @@ ended_over p planned q r plans room less on runs left = by (more r) refl
 abbrev piece_counts : Pieced → Bool → Raced → ScanCounts
 piece_counts piece last r = piece_counted (counts_at r.counts (turn_scan r)) (length piece.entries) (length (kept_of r piece)) last
 
-accepted_room : (piece : Pieced) (last : Bool) (r : Raced) (planned : ℕ) → planned ≤ length r.counts → planned ≤ length (accepted piece last r).counts
+pub accepted_room : (piece : Pieced) (last : Bool) (r : Raced) (planned : ℕ) → planned ≤ length r.counts → planned ≤ length (accepted piece last r).counts
 accepted_room piece last r planned room = subst (λ (n : ℕ). planned ≤ n) (sym (length-set r.counts (turn_scan r) (piece_counts piece last r))) room
 
 accepted_rest : (p planned : ℕ) (piece : Pieced) (last : Bool) (r : Raced) → Runs planned r.running → rest_sum p planned (accepted piece last r).counts (accepted piece last r).running ≡ rest_sum p planned r.counts r.running
@@ -202,7 +203,7 @@ rest_less p planned counts w = sums (to_read p w.next (planned - w.next)) (turn_
     sums : (a b c : ℕ) → a + c ≤ a + b + c
     sums a b c = omega arith
 
-least_less : (r : Raced) (o : Option ℕ) → least_with r o ≤ r.guaranteed
+pub least_less : (r : Raced) (o : Option ℕ) → least_with r o ≤ r.guaranteed
 least_less r None = same_less r.guaranteed
   where
     same_less : (n : ℕ) → n ≤ n
@@ -215,7 +216,7 @@ least_less r (Some other) = least r.guaranteed _
 share_more : (spent share more : ℕ) → spent ≤ 1 + share → share ≤ more → spent ≤ 1 + more
 share_more spent share more s m = omega (arith, s, m)
 
-below_room : (a b c d : ℕ) → a < b → b ≤ c → c ≤ d → a < d
+pub below_room : (a b c d : ℕ) → a < b → b ≤ c → c ≤ d → a < d
 below_room a b c d h m n = omega (arith, h, m, n)
 
 same_rest : (a b c : ℕ) → a ≡ b → b ≤ c → a ≤ c
@@ -253,7 +254,7 @@ recounted_room : (keys : List ℕ) (counts : List ScanCounts) (o : Option Runner
 recounted_room keys counts None = refl
 recounted_room keys counts (Some x) = length-set counts x.scan (record (counts_at counts x.scan) { kept = length (narrowed_lane keys x.lane).building })
 
-other_below : (o : Option Runner) (next planned size : ℕ) → IfSome o (λ x. x.scan < next) → next ≤ planned → planned ≤ size → IfSome o (λ x. x.scan < size)
+pub other_below : (o : Option Runner) (next planned size : ℕ) → IfSome o (λ x. x.scan < next) → next ≤ planned → planned ≤ size → IfSome o (λ x. x.scan < size)
 other_below None next planned size h m n = tt
 other_below (Some x) next planned size h m n = below_room x.scan next planned size h m n
 
@@ -298,7 +299,7 @@ still_sum n a = omega arith
 still_spends : (p planned : ℕ) (old new : Raced) → Placed p planned old → new ≡ old → RaceSpends p planned 0 old new
 still_spends p planned old new w e = subst (RaceSpends p planned 0 old) (sym e) (record { placed = w; fewer = still_sum old.trace.leaves (race_ahead p planned old) })
 
-give_spends : (p planned : ℕ) (would : ℕ → Facts → Ruling) (old new : Raced) → IsBounded would → Placed p planned old → RaceGives would old new → RaceSpends p planned 0 old new
+pub give_spends : (p planned : ℕ) (would : ℕ → Facts → Ruling) (old new : Raced) → IsBounded would → Placed p planned old → RaceGives would old new → RaceSpends p planned 0 old new
 give_spends p planned would old new rule w gives = by gives.given gives.answers gives.obeys
   where
     by : (given : Given) → Answers old gives.piece given new → GivesOn would gives.state gives.after gives.piece given old new → RaceSpends p planned 0 old new
@@ -361,17 +362,17 @@ lost_ahead p planned r held small w reads =
     same_n n = omega arith
 
 -- what a leaf that is taken, or not, leaves: the scan whose turn it is may hold it, and it is counted
-record Leafs (old new : Raced) : Type 0 where
-  control : new.control ≡ old.control
-  plans : new.plans ≡ old.plans
-  counts : new.counts ≡ counts_read old
-  running : new.running ≡ lane_held (turn_lane new).held old
-  guaranteed : new.guaranteed ≡ old.guaranteed
+pub record Leafs (old new : Raced) : Type 0 where
+  pub control : new.control ≡ old.control
+  pub plans : new.plans ≡ old.plans
+  pub counts : new.counts ≡ counts_read old
+  pub running : new.running ≡ lane_held (turn_lane new).held old
+  pub guaranteed : new.guaranteed ≡ old.guaranteed
 
 same_less : (a b : ℕ) → a ≡ b → a ≤ b
 same_less a b e = omega (arith, e)
 
-leafs_placed : (p planned : ℕ) (old new : Raced) → Placed p planned old → Leafs old new → Placed p planned new
+pub leafs_placed : (p planned : ℕ) (old new : Raced) → Placed p planned old → Leafs old new → Placed p planned new
 leafs_placed p planned old new w t = record {
   plans = ap length t.plans ∙ w.plans;
   room = subst (λ (n : ℕ). planned ≤ n) (sym (ap length t.counts ∙ counts_room old)) w.room;
@@ -451,7 +452,7 @@ sum_lost : (now was left had : ℕ) → now ≤ was + 1 → left ≤ had → now
 sum_lost now was left had n l = omega (arith, n, l)
 
 -- what a take leaves
-takes_leafs : (old new : Raced) → TakesLeaf old new → Leafs old new
+pub takes_leafs : (old new : Raced) → TakesLeaf old new → Leafs old new
 takes_leafs old new t = record {
   control = ap (λ (x : Raced). x.control) t.same;
   plans = ap (λ (x : Raced). x.plans) t.same;
@@ -464,7 +465,7 @@ takes_held : (taken : Taken) (new : Raced) → racing new.control ≡ true → T
 takes_held (Piece piece) new on answers = has_held (turn_lane new).held piece.entries answers.own.entries
 takes_held Nothing new on answers = not_racing (racing new.control) on answers
 
-take_spends : (p planned : ℕ) (taken : Taken) (old new : Raced) → p + 2 * planned < greatest → Placed p planned old → RaceTakes (Some taken) old new → RaceSpends p planned 0 old new
+pub take_spends : (p planned : ℕ) (taken : Taken) (old new : Raced) → p + 2 * planned < greatest → Placed p planned old → RaceTakes (Some taken) old new → RaceSpends p planned 0 old new
 take_spends p planned taken old new small w takes = record { placed = leafs_placed p planned old new w leafs; fewer = read (reads_leaf old) refl }
   where
     leafs : Leafs old new
@@ -477,7 +478,7 @@ take_spends p planned taken old new small w takes = record { placed = leafs_plac
     read false r =
         sum_none new.trace.leaves old.trace.leaves (race_ahead p planned new) (race_ahead p planned old) (rise_none new.trace.leaves old.trace.leaves takes.before.leaves takes.behind.leaves greatest takes.counts.leaves (ap (λ (c : Counts). c.leaves) (takes.reads ∙ piece_none old takes.before r))) (leafs_none p planned old new leafs r (λ on. takes.leaves.none r))
 
-take_lost : (p planned : ℕ) (old new : Raced) → p + 2 * planned < greatest → Placed p planned old → RaceTakes None old new → RaceSpends p planned 1 old new
+pub take_lost : (p planned : ℕ) (old new : Raced) → p + 2 * planned < greatest → Placed p planned old → RaceTakes None old new → RaceSpends p planned 1 old new
 take_lost p planned old new small w takes = record {
   placed = leafs_placed p planned old new w leafs;
   fewer = sum_lost new.trace.leaves old.trace.leaves (race_ahead p planned new) (race_ahead p planned old) (rise_one new.trace.leaves old.trace.leaves takes.before.leaves takes.behind.leaves greatest takes.counts.leaves (subst (λ (c : Counts). c.leaves ≤ takes.before.leaves + 1) (sym takes.reads) (piece_one old takes.before))) (left (reads_leaf old) refl);
@@ -492,7 +493,7 @@ take_lost p planned old new small w takes = record {
 
 -- A STEP FOR WHICH NO MEMORY IS FOUND.
 
-only_leafs : (old new : Raced) → OnlyTakes old new → Leafs old new
+pub only_leafs : (old new : Raced) → OnlyTakes old new → Leafs old new
 only_leafs old new t = record {
   control = ap (λ (x : Raced). x.control) t.same;
   plans = ap (λ (x : Raced). x.plans) t.same;
@@ -501,11 +502,11 @@ only_leafs old new t = record {
   guaranteed = ap (λ (x : Raced). x.guaranteed) t.same;
 }
 
-one_record : (c d : Counts) → OneAtMost record_read c d → d.leaves ≡ c.leaves
+pub one_record : (c d : Counts) → OneAtMost record_read c d → d.leaves ≡ c.leaves
 one_record c d (inl same) = ap (λ (x : Counts). x.leaves) same
 one_record c d (inr read) = ap (λ (x : Counts). x.leaves) read
 
-one_page : (c d : Counts) → OneAtMost page_read c d → d.leaves ≡ c.leaves
+pub one_page : (c d : Counts) → OneAtMost page_read c d → d.leaves ≡ c.leaves
 one_page c d (inl same) = ap (λ (x : Counts). x.leaves) same
 one_page c d (inr read) = ap (λ (x : Counts). x.leaves) read
 
@@ -532,7 +533,14 @@ more_sum now was left had n l = omega (arith, n, l)
 both_more : (a b c d : ℕ) → a ≡ c → b ≡ d → c ≤ d + 1 → a ≤ b + 1
 both_more a b c d e f h = omega (arith, e, f, h)
 
-step_lost : (p planned : ℕ) (old new : Raced) → p + 2 * planned < greatest → Placed p planned old → RaceStepsLost old new → RaceSpends p planned 1 old new
+-- beside the scans no leaf is read
+pub idle_spends : (p planned : ℕ) (old new : Raced) (c d : Counts) → Placed p planned old → Leafs old new → racing old.control ≡ false → CountsRise old.trace new.trace c d → d.leaves ≡ c.leaves → RaceSpends p planned 0 old new
+idle_spends p planned old new c d w leafs off rise none = record {
+  placed = leafs_placed p planned old new w leafs;
+  fewer = sum_none new.trace.leaves old.trace.leaves (race_ahead p planned new) (race_ahead p planned old) (rise_none new.trace.leaves old.trace.leaves c.leaves d.leaves greatest rise.leaves none) (idle_less (race_ahead p planned new) (race_ahead p planned old) (idle_left p planned new (ap racing leafs.control ∙ off)));
+}
+
+pub step_lost : (p planned : ℕ) (old new : Raced) → p + 2 * planned < greatest → Placed p planned old → RaceStepsLost old new → RaceSpends p planned 1 old new
 step_lost p planned old new small w lost = record {
   placed = leafs_placed p planned old new w leafs;
   fewer = by (reads_leaf old) refl;
@@ -649,7 +657,7 @@ does_spends p planned would state after shown c d s Done old stepped new small r
       fewer = quiet_sum new.trace.leaves old.trace.leaves (race_ahead p planned new) (race_ahead p planned stepped) (race_ahead p planned old) (rise_none new.trace.leaves old.trace.leaves c.leaves d.leaves greatest rise.leaves (ap (λ (x : Counts). x.leaves) does.2)) (counted_ahead p planned stepped new c d e) (same_less (race_ahead p planned stepped) (race_ahead p planned old) (ap (race_ahead p planned) does.3));
     }
 
-step_spends : (p planned : ℕ) (would : ℕ → Facts → Ruling) (old new : Raced) → p + 2 * planned < greatest → IsBounded would → Placed p planned old → RaceSteps would old new → RaceSpends p planned 0 old new
+pub step_spends : (p planned : ℕ) (would : ℕ → Facts → Ruling) (old new : Raced) → p + 2 * planned < greatest → IsBounded would → Placed p planned old → RaceSteps would old new → RaceSpends p planned 0 old new
 step_spends p planned would old new small rule w steps = does_spends p planned would steps.state steps.after steps.shown steps.before steps.behind steps.scanned old.control old steps.does.stepped new small rule w refl steps.does.does steps.counts steps.does.counts
 
 -- ALL CALLS
@@ -741,6 +749,12 @@ is_more a b test = grind (arith, nat_tests)
 zero_most : (n most : ℕ) → n ≡ 0 → n ≤ most
 zero_most n most e = omega (arith, e)
 
+pub opened_placed : (table snap : ℕ) (only : List (List Atom)) (scans : List ScanPlan) (cursor opening pages : ℕ) (r : Raced) → 2 ≤ length scans → length scans ≤ 8 → Opened table snap only scans cursor opening pages r → Placed pages (length scans) r
+opened_placed table snap only scans cursor opening pages r two few is = subst (Placed pages (length scans)) (sym is.is) (record { plans = refl; room = few; less = same_less pages pages refl; runs = λ on. first_runs (length scans) two })
+
+pub opened_most : (table snap : ℕ) (only : List (List Atom)) (scans : List ScanPlan) (cursor opening pages : ℕ) (r : Raced) → 2 ≤ length scans → Opened table snap only scans cursor opening pages r → race_ahead pages (length scans) r ≤ pages + 2 * length scans
+opened_most table snap only scans cursor opening pages r two is = subst (λ (x : Raced). race_ahead pages (length scans) x ≤ pages + 2 * length scans) (sym is.is) (opened_ahead pages (length scans) two)
+
 pub races_few : RacesReadFewLeaves
 races_few table snap only scans cursor opening pages calls opened now two few is does = by (nat_lt (pages + 2 * planned) greatest) refl
   where
@@ -751,10 +765,10 @@ races_few table snap only scans cursor opening pages calls opened now two few is
     none = ap (λ (x : Raced). x.trace.leaves) is.is
 
     ahead : race_ahead pages planned opened ≤ pages + 2 * planned
-    ahead = subst (λ (x : Raced). race_ahead pages planned x ≤ pages + 2 * planned) (sym is.is) (opened_ahead pages planned two)
+    ahead = opened_most table snap only scans cursor opening pages opened two is
 
     placed : Placed pages planned opened
-    placed = subst (Placed pages planned) (sym is.is) (record { plans = refl; room = few; less = same_less pages pages refl; runs = λ on. first_runs planned two })
+    placed = opened_placed table snap only scans cursor opening pages opened two few is
 
     by : (b : Bool) → nat_lt (pages + 2 * planned) greatest ≡ b → now.trace.leaves ≤ pages + 2 * planned + lost_by calls
     by true test =

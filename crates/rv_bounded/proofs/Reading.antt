@@ -30,7 +30,7 @@ use Rattle.rv_retrieval.specs.Stepping.{DoesAs, MayRead, OnePiece, ReadsAs, Reme
 use Rattle.skew_judges.specs.Guard.{IsBounded}
 use Rattle.rv_bounded.specs.Calls.{Steps, StepsLost, Takes}
 use Rattle.rv_bounded.proofs.Ahead.{ahead, counts_long, greatest, has_held, is_under_way, lost_ahead, read_ahead}
-use Rattle.rv_bounded.proofs.Controls.{goes_behind, is_behind}
+use Rattle.rv_bounded.proofs.Controls.{goes_apart, goes_behind, is_apart, is_behind}
 use Rattle.rv_bounded.proofs.Spending.{Spends, Stays, Within, given_spends, stays_on, stays_still, within_on}
 
 -- Counts.
@@ -38,7 +38,7 @@ use Rattle.rv_bounded.proofs.Spending.{Spends, Stays, Within, given_spends, stay
 rise_one : (now was before behind most : ℕ) → now ≡ min (was + (behind - before)) most → behind ≤ before + 1 → now ≤ was + 1
 rise_one now was before behind most n b = omega (arith, n, b)
 
-rise_none : (now was before behind most : ℕ) → now ≡ min (was + (behind - before)) most → behind ≡ before → now ≤ was
+pub rise_none : (now was before behind most : ℕ) → now ≡ min (was + (behind - before)) most → behind ≡ before → now ≤ was
 rise_none now was before behind most n b = omega (arith, n, b)
 
 same_one : (behind before : ℕ) → behind ≡ before → behind ≤ before + 1
@@ -80,12 +80,14 @@ piece_still v c none = by (is_background v.control) refl
 
 -- What stays.
 
-aside_stays : (old new : Shape) → new.strategy ≡ old.strategy → new.control ≡ old.control → length new.joint.plans ≡ length old.joint.plans → length new.joint.counts ≡ length old.joint.counts → new.guaranteed ≡ old.guaranteed → Stays old new
-aside_stays old new strategy control plans counts guaranteed = record {
+aside_stays : (old new : Shape) → new.strategy ≡ old.strategy → new.control ≡ old.control → length new.joint.plans ≡ length old.joint.plans → length new.joint.counts ≡ length old.joint.counts → new.guaranteed ≡ old.guaranteed → new.query ≡ old.query → Stays old new
+aside_stays old new strategy control plans counts guaranteed asked = record {
   behind = λ b. ap (λ (s : Strategy). is_behind s new.control) strategy ∙ ap (is_behind old.strategy) control ∙ b;
   plans = plans;
   counts = counts;
   less = same guaranteed;
+  asked = asked;
+  apart = λ b. ap is_apart control ∙ b;
 }
   where
     same : new.guaranteed ≡ old.guaranteed → new.guaranteed ≤ old.guaranteed
@@ -118,7 +120,7 @@ same_less : (a b : ℕ) → a ≡ b → a ≤ b
 same_less a b e = omega (arith, e)
 
 takes_stays : (old new : Shape) → new ≡ record old { joint = new.joint; trace = new.trace } → TakesLeaf old new.joint → Stays old new
-takes_stays old new same leaves = aside_stays old new (ap (λ (x : Shape). x.strategy) same) (ap (λ (x : Shape). x.control) same) (leaf_plans (is_background old.control) old.joint new.joint leaves) (leaf_counts (is_background old.control) old.joint new.joint leaves) (ap (λ (x : Shape). x.guaranteed) same)
+takes_stays old new same leaves = aside_stays old new (ap (λ (x : Shape). x.strategy) same) (ap (λ (x : Shape). x.control) same) (leaf_plans (is_background old.control) old.joint new.joint leaves) (leaf_counts (is_background old.control) old.joint new.joint leaves) (ap (λ (x : Shape). x.guaranteed) same) (ap (λ (x : Shape). x.query) same)
 
 -- a piece that was taken holds its leaf
 takes_held : (taken : Taken) (old new : Shape) → new.control ≡ old.control → is_background old.control ≡ true → under_way new.joint ≡ true → TakesPiece new taken → is_some new.joint.held ≡ true
@@ -127,8 +129,8 @@ takes_held Nothing old new control back way answers =
     let here : awaited new ≡ Some (next_id new.joint) = ap (λ (b : Bool). if b then (if under_way new.joint then Some (next_id new.joint) else None) else None) (ap is_background control ∙ back) ∙ ap (λ (b : Bool). if b then Some (next_id new.joint) else None) way in
     absurd (let bad : Some (next_id new.joint) ≡ None = sym here ∙ answers in cc)
 
-pub take_spends : (p planned : ℕ) (taken : Taken) (old new : Shape) → p + 2 * planned < greatest → Within p planned old → Takes (Some taken) old new → Spends p 0 old new
-take_spends p planned taken old new small w takes = record { stays = takes_stays old new takes.same takes.leaves; fewer = by (is_background old.control) refl }
+pub take_spends : (p planned : ℕ) (taken : Taken) (shown : Shown) (old new : Shape) → p + 2 * planned < greatest → Within p planned old → Takes (Some taken) shown old new → Spends p 0 old new
+take_spends p planned taken shown old new small w takes = record { stays = takes_stays old new takes.same takes.leaves; fewer = by (is_background old.control) refl }
   where
     by : (b : Bool) → is_background old.control ≡ b → new.trace.leaves + ahead p new.joint ≤ old.trace.leaves + ahead p old.joint + 0
     by true back = read (reads_leaf old.joint) refl
@@ -148,26 +150,26 @@ take_spends p planned taken old new small w takes = record { stays = takes_stays
         sum_none new.trace.leaves old.trace.leaves (ahead p new.joint) (ahead p old.joint) (rise_none new.trace.leaves old.trace.leaves takes.before.leaves takes.behind.leaves greatest takes.counts.leaves (ap (λ (c : Counts). c.leaves) (takes.reads ∙ piece_idle old takes.before idle))) (same_less (ahead p new.joint) (ahead p old.joint) (ap (ahead p) same))
 
 -- a leaf may have been taken
-leaf_lost : (p planned : ℕ) (old : Shape) (new : Joint) → p + 2 * planned < greatest → Within p planned old → TakesLeaf old new → ahead p new ≤ ahead p old.joint
+pub leaf_lost : (p planned : ℕ) (old : Shape) (new : Joint) → p + 2 * planned < greatest → Within p planned old → TakesLeaf old new → ahead p new ≤ ahead p old.joint
 leaf_lost p planned old new small w leaves = by (is_background old.control) leaves
   where
     by : (b : Bool) → TakesLeafBy b old.joint new → ahead p new ≤ ahead p old.joint
     by true t = lost_ahead p old.joint new t w.room (small_joint p planned old w small)
     by false e = same_less (ahead p new) (ahead p old.joint) (ap (ahead p) e)
 
-pub take_lost : (p planned : ℕ) (old new : Shape) → p + 2 * planned < greatest → Within p planned old → Takes None old new → Spends p 1 old new
-take_lost p planned old new small w takes = record {
+pub take_lost : (p planned : ℕ) (shown : Shown) (old new : Shape) → p + 2 * planned < greatest → Within p planned old → Takes None shown old new → Spends p 1 old new
+take_lost p planned shown old new small w takes = record {
   stays = takes_stays old new takes.same takes.leaves;
   fewer = sum_lost new.trace.leaves old.trace.leaves (ahead p new.joint) (ahead p old.joint) (rise_one new.trace.leaves old.trace.leaves takes.before.leaves takes.behind.leaves greatest takes.counts.leaves (subst (λ (c : Counts). c.leaves ≤ takes.before.leaves + 1) (sym takes.reads) (piece_one old takes.before))) (leaf_lost p planned old new.joint small w takes.leaves);
 }
 
 -- A FOREGROUND STEP FOR WHICH NO MEMORY IS FOUND.
 
-one_record : (c d : Counts) → OneAtMost record_read c d → d.leaves ≡ c.leaves
+pub one_record : (c d : Counts) → OneAtMost record_read c d → d.leaves ≡ c.leaves
 one_record c d (inl same) = ap (λ (x : Counts). x.leaves) same
 one_record c d (inr read) = ap (λ (x : Counts). x.leaves) read
 
-one_page : (c d : Counts) → OneAtMost page_read c d → d.leaves ≡ c.leaves
+pub one_page : (c d : Counts) → OneAtMost page_read c d → d.leaves ≡ c.leaves
 one_page c d (inl same) = ap (λ (x : Counts). x.leaves) same
 one_page c d (inr read) = ap (λ (x : Counts). x.leaves) read
 
@@ -189,9 +191,9 @@ may_one FinalList strategy fresh v c d b reads = same_one d.leaves c.leaves (one
 may_one FinalTable strategy fresh v c d b reads = same_one d.leaves c.leaves (one_page c d reads)
 may_one Done strategy fresh v c d b reads = same_one d.leaves c.leaves (ap (λ (x : Counts). x.leaves) reads)
 
-pub step_lost : (p planned : ℕ) (old new : Shape) → p + 2 * planned < greatest → Within p planned old → StepsLost old new → Spends p 1 old new
-step_lost p planned old new small w lost = record {
-  stays = aside_stays old new (ap (λ (x : Shape). x.strategy) lost.only.same) (ap (λ (x : Shape). x.control) lost.only.same) (plans lost.only.leaves) (counts lost.only.leaves) (ap (λ (x : Shape). x.guaranteed) lost.only.same);
+pub step_lost : (p planned : ℕ) (shown : Shown) (old new : Shape) → p + 2 * planned < greatest → Within p planned old → StepsLost shown old new → Spends p 1 old new
+step_lost p planned shown old new small w lost = record {
+  stays = aside_stays old new (ap (λ (x : Shape). x.strategy) lost.only.same) (ap (λ (x : Shape). x.control) lost.only.same) (plans lost.only.leaves) (counts lost.only.leaves) (ap (λ (x : Shape). x.guaranteed) lost.only.same) (ap (λ (x : Shape). x.query) lost.only.same);
   fewer = sum_lost new.trace.leaves old.trace.leaves (ahead p new.joint) (ahead p old.joint) (rise_one new.trace.leaves old.trace.leaves lost.before.leaves lost.behind.leaves greatest lost.counts.leaves (may_one old.control old.strategy (fresh_of old) old lost.before lost.behind w.behind lost.may_read)) (fewer lost.only.leaves);
 }
   where
@@ -211,7 +213,7 @@ step_lost p planned old new small w lost = record {
 
 -- what a step has done is counted behind it
 counted_stays : (old stepped new : Shape) (c d : Counts) → new ≡ record stepped { trace = counted stepped.trace c d } → Stays old stepped → Stays old new
-counted_stays old stepped new c d e s = stays_on old stepped new s (aside_stays stepped new (ap (λ (x : Shape). x.strategy) e) (ap (λ (x : Shape). x.control) e) (ap (λ (x : Shape). length x.joint.plans) e) (ap (λ (x : Shape). length x.joint.counts) e) (ap (λ (x : Shape). x.guaranteed) e))
+counted_stays old stepped new c d e s = stays_on old stepped new s (aside_stays stepped new (ap (λ (x : Shape). x.strategy) e) (ap (λ (x : Shape). x.control) e) (ap (λ (x : Shape). length x.joint.plans) e) (ap (λ (x : Shape). length x.joint.counts) e) (ap (λ (x : Shape). x.guaranteed) e) (ap (λ (x : Shape). x.query) e))
 
 counted_leaves : (stepped new : Shape) (c d : Counts) → new ≡ record stepped { trace = counted stepped.trace c d } → new.trace.leaves ≡ min (stepped.trace.leaves + (d.leaves - c.leaves)) greatest
 counted_leaves stepped new c d e = ap (λ (x : Shape). x.trace.leaves) e
@@ -246,7 +248,7 @@ final_quiet old v stepped s stays joint leaves e = subst (Quiet old) (sym e) (by
     by (Found r) = record { stays = stays; joint = joint; leaves = leaves }
     by Working = record { stays = stays; joint = joint; leaves = leaves }
     by End = record {
-      stays = record { behind = λ b. goes_behind v.strategy v.control FinalEnded (stays.behind b); plans = stays.plans; counts = stays.counts; less = stays.less };
+      stays = record { behind = λ b. goes_behind v.strategy v.control FinalEnded (stays.behind b); plans = stays.plans; counts = stays.counts; less = stays.less; asked = stays.asked; apart = λ b. goes_apart v.strategy v.control FinalEnded (stays.apart b) };
       joint = joint;
       leaves = leaves;
     }
@@ -274,7 +276,7 @@ piece_spends p planned would state after passed old stepped new c d small rule w
     mid = record old { borrowed = passed; joint = one.taken }
 
     takes : Stays old mid
-    takes = record { behind = λ b. b; plans = ap (λ (j : Joint). length j.plans) one.leaves.same; counts = ap (λ (j : Joint). length j.counts) one.leaves.same ∙ counts_long old.joint; less = same_less old.guaranteed old.guaranteed refl }
+    takes = record { behind = λ b. b; plans = ap (λ (j : Joint). length j.plans) one.leaves.same; counts = ap (λ (j : Joint). length j.counts) one.leaves.same ∙ counts_long old.joint; less = same_less old.guaranteed old.guaranteed refl; asked = refl; apart = λ h. h }
 
     given : Spends p 0 mid stepped
     given = given_spends p planned would state after one.piece mid stepped one.obeys.0 rule (within_on p planned old mid takes w) one.awaits one.obeys.1 one.obeys.2
@@ -297,7 +299,7 @@ back_spends p planned would state after old stepped new c d small rule w steps r
     by false a still = quiet_spends p old stepped new c d quiet (ap (λ (x : Counts). x.leaves) (reads ∙ piece_still old c a)) e
       where
         quiet : Quiet old stepped
-        quiet = subst (Quiet old) (sym still.0) (record { stays = record { behind = λ b. b; plans = refl; counts = refl; less = same_less old.guaranteed old.guaranteed refl }; joint = refl; leaves = refl })
+        quiet = subst (Quiet old) (sym still.0) (record { stays = record { behind = λ b. b; plans = refl; counts = refl; less = same_less old.guaranteed old.guaranteed refl; asked = refl; apart = λ h. h }; joint = refl; leaves = refl })
 
 -- a fresh key is fetched, and its row remembered, with which the buffer may be full
 
@@ -305,7 +307,7 @@ filled_stays : (old v : Shape) → Stays old v → Stays old (filled v)
 filled_stays old v s = by (length v.delivered == 1024)
   where
     by : (b : Bool) → Stays old (if b then gone Full (record v { trace = noted v.trace FullEvent }) else v)
-    by true = record { behind = λ b. goes_behind v.strategy v.control Full (s.behind b); plans = s.plans; counts = s.counts; less = s.less }
+    by true = record { behind = λ b. goes_behind v.strategy v.control Full (s.behind b); plans = s.plans; counts = s.counts; less = s.less; asked = s.asked; apart = λ b. goes_apart v.strategy v.control Full (s.apart b) }
     by false = s
 
 filled_joint : (v : Shape) → (filled v).joint ≡ v.joint
@@ -325,11 +327,11 @@ filled_leaves v = by (length v.delivered == 1024)
 borrow_quiet : (s : Scanned) (old v stepped : Shape) → Stays old v → v.joint ≡ old.joint → v.trace.leaves ≡ old.trace.leaves → RemembersBy s v stepped → Quiet old stepped
 borrow_quiet (Found r) old v stepped stays joint leaves remembers =
     let w = record v { delivered = stepped.delivered } in
-    let still : Stays old w = record { behind = stays.behind; plans = stays.plans; counts = stays.counts; less = stays.less } in
+    let still : Stays old w = record { behind = stays.behind; plans = stays.plans; counts = stays.counts; less = stays.less; asked = stays.asked; apart = stays.apart } in
     subst (Quiet old) (sym remembers.same) (record { stays = filled_stays old w still; joint = filled_joint w ∙ joint; leaves = filled_leaves w ∙ leaves })
 borrow_quiet Working old v stepped stays joint leaves remembers = subst (Quiet old) (sym remembers) (record { stays = stays; joint = joint; leaves = leaves })
 borrow_quiet End old v stepped stays joint leaves remembers = subst (Quiet old) (sym remembers) (record {
-  stays = record { behind = λ b. goes_behind v.strategy v.control FrontEnded (stays.behind b); plans = stays.plans; counts = stays.counts; less = stays.less };
+  stays = record { behind = λ b. goes_behind v.strategy v.control FrontEnded (stays.behind b); plans = stays.plans; counts = stays.counts; less = stays.less; asked = stays.asked; apart = λ b. goes_apart v.strategy v.control FrontEnded (stays.apart b) };
   joint = joint;
   leaves = leaves;
 })
@@ -339,7 +341,7 @@ both_spends p planned would state after shown c d s Table fresh old stepped new 
 both_spends p planned would state after shown c d s BackgroundOnly fresh old stepped new small rule w b does reads e = back_spends p planned would state after old stepped new c d small rule w does.1 reads e
 both_spends p planned would state after shown c d s Union fresh old stepped new small rule w b does reads e = back_spends p planned would state after old stepped new c d small rule w does.1 reads e
 both_spends p planned would state after shown c d s FastFirst None old stepped new small rule w b does reads e = back_spends p planned would state after old stepped new c d small rule w does.1 reads e
-both_spends p planned would state after shown c d s FastFirst (Some key) old stepped new small rule w b does reads e = quiet_spends p old stepped new c d (borrow_quiet s old (record old { borrowed = stepped.borrowed }) stepped (record { behind = λ h. h; plans = refl; counts = refl; less = same_less old.guaranteed old.guaranteed refl }) refl refl does.1.left) (ap (λ (x : Counts). x.leaves) reads) e
+both_spends p planned would state after shown c d s FastFirst (Some key) old stepped new small rule w b does reads e = quiet_spends p old stepped new c d (borrow_quiet s old (record old { borrowed = stepped.borrowed }) stepped (record { behind = λ h. h; plans = refl; counts = refl; less = same_less old.guaranteed old.guaranteed refl; asked = refl; apart = λ h. h }) refl refl does.1.left) (ap (λ (x : Counts). x.leaves) reads) e
 both_spends p planned would state after shown c d s Sorted fresh old stepped new small rule w b does reads e = no_other b
 both_spends p planned would state after shown c d s IndexOnly fresh old stepped new small rule w b does reads e = no_other b
 
@@ -347,11 +349,11 @@ does_spends : (p planned : ℕ) (would : ℕ → Facts → Ruling) (state after 
 does_spends p planned would state after shown c d s Building old stepped new small rule w b does reads e = both_spends p planned would state after shown c d s old.strategy (fresh_of old) old stepped new small rule w b does reads e
 does_spends p planned would state after shown c d s ForegroundAlone old stepped new small rule w b does reads e = no_other b
 does_spends p planned would state after shown c d s BackgroundAlone old stepped new small rule w b does reads e = back_spends p planned would state after old stepped new c d small rule w does.1 reads e
-does_spends p planned would state after shown c d s FinalList old stepped new small rule w b does reads e = quiet_spends p old stepped new c d (final_quiet old (record old { at = stepped.at }) stepped s (record { behind = λ h. h; plans = refl; counts = refl; less = same_less old.guaranteed old.guaranteed refl }) refl refl does.2) (one_record c d reads) e
-does_spends p planned would state after shown c d s FinalTable old stepped new small rule w b does reads e = quiet_spends p old stepped new c d (final_quiet old (record old { last = stepped.last }) stepped s (record { behind = λ h. h; plans = refl; counts = refl; less = same_less old.guaranteed old.guaranteed refl }) refl refl does.1) (page_none s c d reads) e
+does_spends p planned would state after shown c d s FinalList old stepped new small rule w b does reads e = quiet_spends p old stepped new c d (final_quiet old (record old { at = stepped.at }) stepped s (record { behind = λ h. h; plans = refl; counts = refl; less = same_less old.guaranteed old.guaranteed refl; asked = refl; apart = λ h. h }) refl refl does.2) (one_record c d reads) e
+does_spends p planned would state after shown c d s FinalTable old stepped new small rule w b does reads e = quiet_spends p old stepped new c d (final_quiet old (record old { last = stepped.last }) stepped s (record { behind = λ h. h; plans = refl; counts = refl; less = same_less old.guaranteed old.guaranteed refl; asked = refl; apart = λ h. h }) refl refl does.1) (page_none s c d reads) e
 does_spends p planned would state after shown c d s Done old stepped new small rule w b does reads e = quiet_spends p old stepped new c d (still_quiet old stepped does.2) (ap (λ (x : Counts). x.leaves) reads) e
 
-pub step_spends : (p planned : ℕ) (would : ℕ → Facts → Ruling) (old new : Shape) → p + 2 * planned < greatest → IsBounded would → Within p planned old → Steps would old new → Spends p 0 old new
-step_spends p planned would old new small rule w steps =
+pub step_spends : (p planned : ℕ) (would : ℕ → Facts → Ruling) (shown : Shown) (old new : Shape) → p + 2 * planned < greatest → IsBounded would → Within p planned old → Steps would shown old new → Spends p 0 old new
+step_spends p planned would shown old new small rule w steps =
     let does = steps.does in
-    does_spends p planned would steps.state steps.after steps.shown steps.before steps.behind does.scanned old.control old does.stepped new small rule w w.behind does.does does.reads does.counts
+    does_spends p planned would steps.state steps.after shown steps.before steps.behind does.scanned old.control old does.stepped new small rule w w.behind does.does does.reads does.counts

@@ -1,5 +1,5 @@
 -- What a piece that is given spends of the leaves ahead, and what it leaves.
-use Rattle.std.proofs.Common.{◌≡◌, ℕ, ◌+◌, ◌≤◌, List, length, length-set, min, Bool, true, false, Option, Some, None, is_some, nat_eq, refl, ap, sym, ◌∙◌, subst, arith, le_trans}
+use Rattle.std.proofs.Common.{◌≡◌, ◌⊎◌, ℕ, ◌+◌, ◌≤◌, List, ◌++◌, length, length-set, min, Bool, true, false, Option, Some, None, is_some, nat_eq, inl, inr, refl, ap, sym, ◌∙◌, subst, arith, le_trans, IsPermutation}
 use Rattle.std.specs.Prelude.{if◌then◌else◌}
 use Rattle.std.proofs.lemmas.Bool.Decides.{nat_tests}
 use Rattle.rv_value.proofs.Tests.{same_number}
@@ -14,7 +14,7 @@ use Rattle.rv_judge.specs.Verdicts.{Ruling}
 use Rattle.rv_judge.specs.Tracing.{noted}
 use Rattle.rv_jscan.specs.Joint.{Joint, under_way}
 use Rattle.rv_jscan.specs.Pieces.{Pieced}
-use Rattle.rv_jscan.specs.Steps.{Accepts, Awaits, abandoned, completed, going, held_next}
+use Rattle.rv_jscan.specs.Steps.{Accepts, Awaits, abandoned, completed, going, held_next, kept_of}
 use Rattle.rv_jscan.proofs.Fits.{way_within}
 use Rattle.rv_retrieval.specs.Accounts.{account_of}
 use Rattle.rv_retrieval.specs.Given.{more_behind}
@@ -25,7 +25,7 @@ use Rattle.rv_retrieval.proofs.Accounting.{account_at}
 use Rattle.skew_judges.specs.Guard.{IsBounded, Keeps, goes_on, share}
 use Rattle.rv_bounded.proofs.Shares.{share_less}
 use Rattle.rv_bounded.proofs.Ahead.{ahead, going_spent, next_ahead, spent_by, stay_ahead, way_counted}
-use Rattle.rv_bounded.proofs.Controls.{goes_behind, is_behind}
+use Rattle.rv_bounded.proofs.Controls.{goes_apart, goes_behind, is_apart, is_behind}
 
 -- WHAT HOLDS FROM OPENING ON: no foreground scans an index, the planned scans are so many and each has its counts, and no
 -- more is guaranteed than the table's pages
@@ -41,12 +41,14 @@ pub record Stays (old new : Shape) : Type 0 where
   pub plans : length new.joint.plans ≡ length old.joint.plans
   pub counts : length new.joint.counts ≡ length old.joint.counts
   pub less : new.guaranteed ≤ old.guaranteed
+  pub asked : new.query ≡ old.query
+  pub apart : is_apart old.control ≡ true → is_apart new.control ≡ true
 
 at_most : (n : ℕ) → n ≤ n
 at_most n = omega arith
 
 pub stays_still : (v : Shape) → Stays v v
-stays_still v = record { behind = λ b. b; plans = refl; counts = refl; less = at_most v.guaranteed }
+stays_still v = record { behind = λ b. b; plans = refl; counts = refl; less = at_most v.guaranteed; asked = refl; apart = λ b. b }
 
 pub stays_on : (a b c : Shape) → Stays a b → Stays b c → Stays a c
 stays_on a b c s t = record {
@@ -54,6 +56,8 @@ stays_on a b c s t = record {
   plans = t.plans ∙ s.plans;
   counts = t.counts ∙ s.counts;
   less = le_trans t.less s.less;
+  asked = t.asked ∙ s.asked;
+  apart = λ h. t.apart (s.apart h);
 }
 
 rooms : (a b c d : ℕ) → a ≡ b → c ≡ d → b ≤ d → a ≤ c
@@ -75,14 +79,14 @@ pub record Spends (p lost : ℕ) (old new : Shape) : Type 0 where
 -- Verdicts.
 
 dropped_stays : (verdict : Verdict) (more next : Bool) (v : Shape) → Stays v (dropped verdict more next v)
-dropped_stays verdict more true v = record { behind = λ b. b; plans = refl; counts = refl; less = at_most v.guaranteed }
-dropped_stays verdict more false v = record { behind = λ b. goes_behind v.strategy v.control (Ruled verdict more (is_some v.joint.list)) b; plans = refl; counts = refl; less = at_most v.guaranteed }
+dropped_stays verdict more true v = record { behind = λ b. b; plans = refl; counts = refl; less = at_most v.guaranteed; asked = refl; apart = λ b. b }
+dropped_stays verdict more false v = record { behind = λ b. goes_behind v.strategy v.control (Ruled verdict more (is_some v.joint.list)) b; plans = refl; counts = refl; less = at_most v.guaranteed; asked = refl; apart = λ b. goes_apart v.strategy v.control (Ruled verdict more (is_some v.joint.list)) b }
 
 stopped_stays : (more : Bool) (v : Shape) → Stays v (stopped more v)
 stopped_stays more v = by (can_stop v)
   where
     by : (b : Bool) → Stays v (if b then gone (Ruled AbandonForeground more (is_some v.joint.list)) (record v { trace = noted v.trace Stop }) else v)
-    by true = record { behind = λ b. goes_behind v.strategy v.control (Ruled AbandonForeground more (is_some v.joint.list)) b; plans = refl; counts = refl; less = at_most v.guaranteed }
+    by true = record { behind = λ b. goes_behind v.strategy v.control (Ruled AbandonForeground more (is_some v.joint.list)) b; plans = refl; counts = refl; less = at_most v.guaranteed; asked = refl; apart = λ b. goes_apart v.strategy v.control (Ruled AbandonForeground more (is_some v.joint.list)) b }
     by false = stays_still v
 
 ruled_stays : (verdict : Verdict) (v : Shape) → Stays v (ruled verdict v)
@@ -121,8 +125,8 @@ over_stays : (scan : ℕ) (v : Shape) → Stays v (scan_over scan v)
 over_stays scan v = by (under_way v.joint)
   where
     by : (b : Bool) → Stays v (if b then going_on (listed scan v) else gone (ScanEnded b (is_some v.joint.list)) (listed scan v))
-    by true = record { behind = λ b. b; plans = refl; counts = refl; less = least_less _ v.guaranteed }
-    by false = record { behind = λ b. goes_behind v.strategy v.control (ScanEnded false (is_some v.joint.list)) b; plans = refl; counts = refl; less = least_less _ v.guaranteed }
+    by true = record { behind = λ b. b; plans = refl; counts = refl; less = least_less _ v.guaranteed; asked = refl; apart = λ b. b }
+    by false = record { behind = λ b. goes_behind v.strategy v.control (ScanEnded false (is_some v.joint.list)) b; plans = refl; counts = refl; less = least_less _ v.guaranteed; asked = refl; apart = λ b. goes_apart v.strategy v.control (ScanEnded false (is_some v.joint.list)) b }
 
 over_fewer : (p q scan : ℕ) (v : Shape) → ahead p v.joint ≤ q → (scan_over scan v).trace.leaves + ahead p (scan_over scan v).joint ≤ v.trace.leaves + q
 over_fewer p q scan v h = by (under_way v.joint)
@@ -150,7 +154,7 @@ goes_ahead p planned would state old entries cut rule w way on =
     stay_ahead p old.joint j refl refl same (share_more (spent_by old.joint) (share old.guaranteed old.joint.ended) (share p old.joint.ended) sunk (share_less old.guaranteed p old.joint.ended w.less))
 
 set_stays : (old : Shape) (j : Joint) → j.plans ≡ old.joint.plans → length j.counts ≡ length old.joint.counts → Stays old (record old { joint = j })
-set_stays old j plans counts = record { behind = λ b. b; plans = ap length plans; counts = counts; less = at_most old.guaranteed }
+set_stays old j plans counts = record { behind = λ b. b; plans = ap length plans; counts = counts; less = at_most old.guaranteed; asked = refl; apart = λ b. b }
 
 going_spends : (p planned : ℕ) (would : ℕ → Facts → Ruling) (state : ℕ) (old : Shape) (entries : List IndexEntry) (cut : IndexEntry) (verdict : Verdict) → verdict ≡ (would state (facts_of (account_of (record old { joint = going old.joint entries cut })) old.joint.ended)).verdict → IsBounded would → Within p planned old → under_way old.joint ≡ true → Spends p 0 old (ruled verdict (record old { joint = going old.joint entries cut }))
 going_spends p planned would state old entries cut verdict is rule w way =
@@ -177,17 +181,33 @@ completed_spends p planned old entries keys w way =
 other_number : (n : ℕ) → nat_eq (n + 1) n ≡ false
 other_number n = grind (arith, nat_tests)
 
-pub given_spends : (p planned : ℕ) (would : ℕ → Facts → Ruling) (state after : ℕ) (piece : Pieced) (old new : Shape) (j : Joint) → IsBounded would → Within p planned old → Awaits old.joint piece → Accepts old.joint j piece.entries (held_next old.joint.held) → Obeys would state after old.joint.ended (record old { joint = j }) new → Spends p 0 old new
-given_spends p planned would state after piece old new j rule w awaits accepts obeys = by (held_next old.joint.held) accepts
+-- WHAT BECOMES OF A PIECE THAT IS GIVEN: its scan goes on, and the judge's verdict upon that is obeyed, or it is complete
+abbrev pub asked_of : (ℕ → Facts → Ruling) → ℕ → Shape → Joint → Verdict
+asked_of would state old j = (would state (facts_of (account_of (record old { joint = j })) old.joint.ended)).verdict
+
+abbrev pub Outcome : (ℕ → Facts → Ruling) → ℕ → List IndexEntry → Shape → Shape → Type 0
+Outcome would state entries old new =
+    ((cut : IndexEntry) × (new ≡ ruled (asked_of would state old (going old.joint entries cut)) (record old { joint = going old.joint entries cut })))
+    ⊎ ((keys : List ℕ) × IsPermutation (old.joint.building ++ kept_of old.joint entries) keys × (new ≡ scan_over old.joint.ended (record old { joint = completed old.joint entries keys })))
+
+pub given_outcome : (would : ℕ → Facts → Ruling) (state after : ℕ) (piece : Pieced) (old new : Shape) (j : Joint) → Awaits old.joint piece → Accepts old.joint j piece.entries (held_next old.joint.held) → Obeys would state after old.joint.ended (record old { joint = j }) new → Outcome would state piece.entries old new
+given_outcome would state after piece old new j awaits accepts obeys = by (held_next old.joint.held) accepts
   where
-    by : (next : Option IndexEntry) → Accepts old.joint j piece.entries next → Spends p 0 old new
+    by : (next : Option IndexEntry) → Accepts old.joint j piece.entries next → Outcome would state piece.entries old new
     by (Some cut) acc =
         let first : Obeyed (nat_eq old.joint.ended old.joint.ended) (under_way old.joint) would state after old.joint.ended (record old { joint = going old.joint piece.entries cut }) new = subst (λ (x : Joint). Obeys would state after old.joint.ended (record old { joint = x }) new) acc obeys in
         let same : Obeyed true (under_way old.joint) would state after old.joint.ended (record old { joint = going old.joint piece.entries cut }) new = subst (λ (b : Bool). Obeyed b (under_way old.joint) would state after old.joint.ended (record old { joint = going old.joint piece.entries cut }) new) (same_number old.joint.ended) first in
         let asked : IsRuled (would state (facts_of (account_of (record old { joint = going old.joint piece.entries cut })) old.joint.ended)) after (record old { joint = going old.joint piece.entries cut }) new = subst (λ (b : Bool). Obeyed true b would state after old.joint.ended (record old { joint = going old.joint piece.entries cut }) new) awaits.way same in
-        subst (λ (x : Shape). Spends p 0 old x) (sym asked.0) (going_spends p planned would state old piece.entries cut (would state (facts_of (account_of (record old { joint = going old.joint piece.entries cut })) old.joint.ended)).verdict refl rule w awaits.way)
+        inl (cut, asked.0)
     by None acc =
         let v = record old { joint = completed old.joint piece.entries acc.0 } in
         let first : Obeyed (nat_eq (old.joint.ended + 1) old.joint.ended) (under_way v.joint) would state after old.joint.ended v new = subst (λ (x : Joint). Obeys would state after old.joint.ended (record old { joint = x }) new) acc.3 obeys in
         let over : (new ≡ scan_over old.joint.ended v) × (after ≡ state) = subst (λ (b : Bool). Obeyed b (under_way v.joint) would state after old.joint.ended v new) (other_number old.joint.ended) first in
-        subst (λ (x : Shape). Spends p 0 old x) (sym over.0) (completed_spends p planned old piece.entries acc.0 w awaits.way)
+        inr (acc.0, acc.1, over.0)
+
+pub given_spends : (p planned : ℕ) (would : ℕ → Facts → Ruling) (state after : ℕ) (piece : Pieced) (old new : Shape) (j : Joint) → IsBounded would → Within p planned old → Awaits old.joint piece → Accepts old.joint j piece.entries (held_next old.joint.held) → Obeys would state after old.joint.ended (record old { joint = j }) new → Spends p 0 old new
+given_spends p planned would state after piece old new j rule w awaits accepts obeys = by (given_outcome would state after piece old new j awaits accepts obeys)
+  where
+    by : Outcome would state piece.entries old new → Spends p 0 old new
+    by (inl on) = subst (λ (x : Shape). Spends p 0 old x) (sym on.1) (going_spends p planned would state old piece.entries on.0 (asked_of would state old (going old.joint piece.entries on.0)) refl rule w awaits.way)
+    by (inr over) = subst (λ (x : Shape). Spends p 0 old x) (sym over.2) (completed_spends p planned old piece.entries over.0 w awaits.way)

@@ -28,6 +28,7 @@ use Rattle.rv_final.specs.Stage.{FetchesKey, first_key}
 use Rattle.rv_jscan.specs.declared.jscan.Given.{Given}
 use Rattle.rv_jscan.specs.declared.jscan.Given.TheVariants.{Accepted, Stale}
 use Rattle.rv_jscan.specs.declared.jscan.ScanCounts.{ScanCounts}
+use Rattle.rv_jscan.specs.declared.jscan.ScanPlan.{ScanPlan}
 use Rattle.rv_jscan.specs.declared.jscan.Taken.{Taken}
 use Rattle.rv_jscan.specs.declared.jscan.Taken.TheVariants.{Piece, Nothing}
 use Rattle.rv_jscan.specs.Joint.{no_counts}
@@ -35,7 +36,7 @@ use Rattle.rv_jscan.specs.Lanes.{Laned}
 use Rattle.rv_jscan.specs.Pieces.{Pieced}
 use Rattle.rv_jscan.specs.Steps.{held_next, leaf_counted}
 use Rattle.rv_union.specs.Given.{Answers, TakesLeaf, TakesPiece, count_read, piece_read, reads_leaf}
-use Rattle.rv_union.specs.Opened.{DoesAs, MayRead, OnePiece, OnlyTakes, ended_by}
+use Rattle.rv_union.specs.Opened.{DoesAs, MayRead, OnePiece, OnlyTakes, Opened, ended_by}
 use Rattle.rv_union.specs.Rulings.{GivesOn, Obeys, accepted, dropped, facts_of, going_on, gone, has_next, index_of, joined, listed, next_member, over, position, ruled, told, was_begun}
 use Rattle.rv_union.specs.Unioned.{Unioned, rows_of, scanning}
 use Rattle.skew_judges.specs.Guard.{IsBounded, Keeps, goes_on, share}
@@ -73,7 +74,7 @@ scanning_left p members u on = ap (λ (b : Bool). if b then union_sum p members 
 idle_left : (p members : ℕ) (u : Unioned) → scanning u.control ≡ false → union_ahead p members u ≡ 0
 idle_left p members u off = ap (λ (b : Bool). if b then union_sum p members u else 0) off
 
-only_scanning : (c : Control) → scanning c ≡ true → c ≡ BackgroundAlone
+pub only_scanning : (c : Control) → scanning c ≡ true → c ≡ BackgroundAlone
 only_scanning Building b = no_other b
 only_scanning ForegroundAlone b = no_other b
 only_scanning BackgroundAlone b = refl
@@ -81,7 +82,7 @@ only_scanning FinalList b = no_other b
 only_scanning FinalTable b = no_other b
 only_scanning Done b = no_other b
 
-not_scanning : {X : Type 0} (b : Bool) → b ≡ true → b ≡ false → X
+pub not_scanning : {X : Type 0} (b : Bool) → b ≡ true → b ≡ false → X
 not_scanning true on off = absurd (cc)
 not_scanning false on off = absurd (cc)
 
@@ -142,7 +143,7 @@ record Lowers (p members q : ℕ) (new : Unioned) : Type 0 where
   fewer : union_ahead p members new ≤ q
 
 -- no member is scanned any more
-gone_dropped : (verdict : Verdict) (c : Control) → scanning c ≡ true → goes_on verdict ≡ false → scanning (next_control Union c (Ruled verdict false false)) ≡ false
+pub gone_dropped : (verdict : Verdict) (c : Control) → scanning c ≡ true → goes_on verdict ≡ false → scanning (next_control Union c (Ruled verdict false false)) ≡ false
 gone_dropped verdict c on off = ap (λ (x : Control). scanning (next_control Union x (Ruled verdict false false))) (only_scanning c on) ∙ by verdict off
   where
     by : (verdict : Verdict) → goes_on verdict ≡ false → scanning (next_control Union BackgroundAlone (Ruled verdict false false)) ≡ false
@@ -151,7 +152,7 @@ gone_dropped verdict c on off = ap (λ (x : Control). scanning (next_control Uni
     by AbandonForeground off = absurd (cc)
     by AbandonBackground off = refl
 
-gone_listed : (c : Control) → scanning c ≡ true → scanning (next_control Union c (ScanEnded false true)) ≡ false
+pub gone_listed : (c : Control) → scanning c ≡ true → scanning (next_control Union c (ScanEnded false true)) ≡ false
 gone_listed c on = ap (λ (x : Control). scanning (next_control Union x (ScanEnded false true))) (only_scanning c on)
 
 dropped_lowers : (p members q : ℕ) (verdict : Verdict) (u : Unioned) → Placed p members u → scanning u.control ≡ true → goes_on verdict ≡ false → Lowers p members q (dropped verdict u)
@@ -224,7 +225,7 @@ still_sum n a = omega arith
 still_spends : (p members : ℕ) (old new : Unioned) → Placed p members old → new ≡ old → UnionSpends p members 0 old new
 still_spends p members old new w e = subst (UnionSpends p members 0 old) (sym e) (record { placed = w; fewer = still_sum old.trace.leaves (union_ahead p members old) })
 
-give_spends : (p members : ℕ) (would : ℕ → Facts → Ruling) (old new : Unioned) → IsBounded would → members ≤ 2 ^ 32 → Placed p members old → UnionGives would old new → UnionSpends p members 0 old new
+pub give_spends : (p members : ℕ) (would : ℕ → Facts → Ruling) (old new : Unioned) → IsBounded would → members ≤ 2 ^ 32 → Placed p members old → UnionGives would old new → UnionSpends p members 0 old new
 give_spends p members would old new rule few w gives = by gives.given gives.answers gives.obeys
   where
     by : (given : Given) → Answers old gives.piece given new → GivesOn would gives.state gives.after gives.piece given old new → UnionSpends p members 0 old new
@@ -236,14 +237,14 @@ give_spends p members would old new rule few w gives = by gives.given gives.answ
 -- A PIECE IS TAKEN.
 
 -- what a leaf that is taken, or not, leaves: it may be held, and is counted
-record Leafs (old new : Unioned) : Type 0 where
-  control : new.control ≡ old.control
-  plans : new.plans ≡ old.plans
-  member : new.member ≡ old.member
-  count : new.count ≡ count_read old
-  guaranteed : new.guaranteed ≡ old.guaranteed
+pub record Leafs (old new : Unioned) : Type 0 where
+  pub control : new.control ≡ old.control
+  pub plans : new.plans ≡ old.plans
+  pub member : new.member ≡ old.member
+  pub count : new.count ≡ count_read old
+  pub guaranteed : new.guaranteed ≡ old.guaranteed
 
-leafs_placed : (p members : ℕ) (old new : Unioned) → Placed p members old → Leafs old new → Placed p members new
+pub leafs_placed : (p members : ℕ) (old new : Unioned) → Placed p members old → Leafs old new → Placed p members new
 leafs_placed p members old new w t = record {
   plans = ap length t.plans ∙ w.plans;
   there = subst (λ (n : ℕ). n < members) (sym t.member) w.there;
@@ -328,7 +329,7 @@ sum_lost now was left had n l = omega (arith, n, l)
 sum_more : (now was left had : ℕ) → now ≤ was → left ≤ had + 1 → now + left ≤ was + had + 1
 sum_more now was left had n l = omega (arith, n, l)
 
-takes_leafs : (old new : Unioned) → TakesLeaf old new → Leafs old new
+pub takes_leafs : (old new : Unioned) → TakesLeaf old new → Leafs old new
 takes_leafs old new t = record {
   control = ap (λ (x : Unioned). x.control) t.same;
   plans = ap (λ (x : Unioned). x.plans) t.same;
@@ -341,7 +342,7 @@ takes_held : (taken : Taken) (new : Unioned) → scanning new.control ≡ true �
 takes_held (Piece piece) new on answers = has_held new.lane.held piece.entries answers.own.entries
 takes_held Nothing new on answers = not_scanning (scanning new.control) on answers
 
-take_spends : (p members : ℕ) (taken : Taken) (old new : Unioned) → p + 2 * members < greatest → Placed p members old → UnionTakes (Some taken) old new → UnionSpends p members 0 old new
+pub take_spends : (p members : ℕ) (taken : Taken) (old new : Unioned) → p + 2 * members < greatest → Placed p members old → UnionTakes (Some taken) old new → UnionSpends p members 0 old new
 take_spends p members taken old new small w takes = record { placed = leafs_placed p members old new w leafs; fewer = read (reads_leaf old) refl }
   where
     leafs : Leafs old new
@@ -354,7 +355,7 @@ take_spends p members taken old new small w takes = record { placed = leafs_plac
     read false r =
         sum_none new.trace.leaves old.trace.leaves (union_ahead p members new) (union_ahead p members old) (rise_none new.trace.leaves old.trace.leaves takes.before.leaves takes.behind.leaves greatest takes.counts.leaves (ap (λ (c : Counts). c.leaves) (takes.reads ∙ piece_none old takes.before r))) (leafs_none p members old new leafs r (λ on. takes.leaves.none r))
 
-take_lost : (p members : ℕ) (old new : Unioned) → p + 2 * members < greatest → Placed p members old → UnionTakes None old new → UnionSpends p members 1 old new
+pub take_lost : (p members : ℕ) (old new : Unioned) → p + 2 * members < greatest → Placed p members old → UnionTakes None old new → UnionSpends p members 1 old new
 take_lost p members old new small w takes = record {
   placed = leafs_placed p members old new w leafs;
   fewer = sum_lost new.trace.leaves old.trace.leaves (union_ahead p members new) (union_ahead p members old) (rise_one new.trace.leaves old.trace.leaves takes.before.leaves takes.behind.leaves greatest takes.counts.leaves (subst (λ (c : Counts). c.leaves ≤ takes.before.leaves + 1) (sym takes.reads) (piece_one old takes.before))) (left (reads_leaf old) refl);
@@ -369,7 +370,7 @@ take_lost p members old new small w takes = record {
 
 -- A STEP FOR WHICH NO MEMORY IS FOUND.
 
-only_leafs : (old new : Unioned) → OnlyTakes old new → Leafs old new
+pub only_leafs : (old new : Unioned) → OnlyTakes old new → Leafs old new
 only_leafs old new t = record {
   control = ap (λ (x : Unioned). x.control) t.same;
   plans = ap (λ (x : Unioned). x.plans) t.same;
@@ -378,11 +379,11 @@ only_leafs old new t = record {
   guaranteed = ap (λ (x : Unioned). x.guaranteed) t.same;
 }
 
-one_record : (c d : Counts) → OneAtMost record_read c d → d.leaves ≡ c.leaves
+pub one_record : (c d : Counts) → OneAtMost record_read c d → d.leaves ≡ c.leaves
 one_record c d (inl same) = ap (λ (x : Counts). x.leaves) same
 one_record c d (inr read) = ap (λ (x : Counts). x.leaves) read
 
-one_page : (c d : Counts) → OneAtMost page_read c d → d.leaves ≡ c.leaves
+pub one_page : (c d : Counts) → OneAtMost page_read c d → d.leaves ≡ c.leaves
 one_page c d (inl same) = ap (λ (x : Counts). x.leaves) same
 one_page c d (inr read) = ap (λ (x : Counts). x.leaves) read
 
@@ -394,7 +395,14 @@ may_one FinalList u c d reads = same_one d.leaves c.leaves (one_record c d reads
 may_one FinalTable u c d reads = same_one d.leaves c.leaves (one_page c d reads)
 may_one Done u c d reads = same_one d.leaves c.leaves (ap (λ (x : Counts). x.leaves) reads)
 
-step_lost : (p members : ℕ) (old new : Unioned) → p + 2 * members < greatest → Placed p members old → UnionStepsLost old new → UnionSpends p members 1 old new
+-- beside the members no leaf is read
+pub idle_spends : (p members : ℕ) (old new : Unioned) (c d : Counts) → Placed p members old → Leafs old new → scanning old.control ≡ false → CountsRise old.trace new.trace c d → d.leaves ≡ c.leaves → UnionSpends p members 0 old new
+idle_spends p members old new c d w leafs off rise none = record {
+  placed = leafs_placed p members old new w leafs;
+  fewer = sum_none new.trace.leaves old.trace.leaves (union_ahead p members new) (union_ahead p members old) (rise_none new.trace.leaves old.trace.leaves c.leaves d.leaves greatest rise.leaves none) (idle_less (union_ahead p members new) (union_ahead p members old) (idle_left p members new (ap scanning leafs.control ∙ off)));
+}
+
+pub step_lost : (p members : ℕ) (old new : Unioned) → p + 2 * members < greatest → Placed p members old → UnionStepsLost old new → UnionSpends p members 1 old new
 step_lost p members old new small w lost = record {
   placed = leafs_placed p members old new w leafs;
   fewer = by (reads_leaf old) refl;
@@ -509,7 +517,7 @@ does_spends p members would state after shown c d s Done old stepped new small r
       fewer = quiet_sum new.trace.leaves old.trace.leaves (union_ahead p members new) (union_ahead p members stepped) (union_ahead p members old) (rise_none new.trace.leaves old.trace.leaves c.leaves d.leaves greatest rise.leaves (ap (λ (x : Counts). x.leaves) does.2)) (counted_ahead p members stepped new c d e) (same_less (union_ahead p members stepped) (union_ahead p members old) (ap (union_ahead p members) does.3));
     }
 
-step_spends : (p members : ℕ) (would : ℕ → Facts → Ruling) (old new : Unioned) → p + 2 * members < greatest → IsBounded would → members ≤ 2 ^ 32 → Placed p members old → UnionSteps would old new → UnionSpends p members 0 old new
+pub step_spends : (p members : ℕ) (would : ℕ → Facts → Ruling) (old new : Unioned) → p + 2 * members < greatest → IsBounded would → members ≤ 2 ^ 32 → Placed p members old → UnionSteps would old new → UnionSpends p members 0 old new
 step_spends p members would old new small rule few w steps = does_spends p members would steps.state steps.after steps.shown steps.before steps.behind steps.scanned old.control old steps.does.stepped new small rule few w refl steps.does.does steps.counts steps.does.counts
 
 -- ALL CALLS
@@ -573,6 +581,15 @@ from_first n = omega arith
 some_below : (n : ℕ) → 1 ≤ n → 0 < n
 some_below n h = omega (arith, h)
 
+first_sum : (p members : ℕ) → member_sum p members 0 no_counts None ≤ p + 2 * members
+first_sum p members = minus_less (to_read p 0 (members - 0)) (min 0 (1 + share p 0 + 0)) (to_read p 0 members) (p + 2 * members) (ap (to_read p 0) (from_first members)) (all_scans p members)
+
+pub opened_placed : (table snap : ℕ) (only : List (List Atom)) (plans : List ScanPlan) (cursor opening pages : ℕ) (u : Unioned) → 1 ≤ length plans → Opened table snap only plans cursor opening pages u → Placed pages (length plans) u
+opened_placed table snap only plans cursor opening pages u some is = subst (Placed pages (length plans)) (sym is.is) (record { plans = refl; there = some_below (length plans) some; less = same_less pages pages refl })
+
+pub opened_most : (table snap : ℕ) (only : List (List Atom)) (plans : List ScanPlan) (cursor opening pages : ℕ) (u : Unioned) → Opened table snap only plans cursor opening pages u → union_ahead pages (length plans) u ≤ pages + 2 * length plans
+opened_most table snap only plans cursor opening pages u is = subst (λ (x : Unioned). union_ahead pages (length plans) x ≤ pages + 2 * length plans) (sym is.is) (first_sum pages (length plans))
+
 pub unions_few : UnionsReadFewLeaves
 unions_few table snap only plans cursor opening pages calls opened now some few is does = by (nat_lt (pages + 2 * members) greatest) refl
   where
@@ -582,14 +599,11 @@ unions_few table snap only plans cursor opening pages calls opened now some few 
     none : opened.trace.leaves ≡ 0
     none = ap (λ (x : Unioned). x.trace.leaves) is.is
 
-    first : member_sum pages members 0 no_counts None ≤ pages + 2 * members
-    first = minus_less (to_read pages 0 (members - 0)) (min 0 (1 + share pages 0 + 0)) (to_read pages 0 members) (pages + 2 * members) (ap (to_read pages 0) (from_first members)) (all_scans pages members)
-
     ahead : union_ahead pages members opened ≤ pages + 2 * members
-    ahead = subst (λ (x : Unioned). union_ahead pages members x ≤ pages + 2 * members) (sym is.is) first
+    ahead = opened_most table snap only plans cursor opening pages opened is
 
     placed : Placed pages members opened
-    placed = subst (Placed pages members) (sym is.is) (record { plans = refl; there = some_below members some; less = same_less pages pages refl })
+    placed = opened_placed table snap only plans cursor opening pages opened some is
 
     by : (b : Bool) → nat_lt (pages + 2 * members) greatest ≡ b → now.trace.leaves ≤ pages + 2 * members + lost_by calls
     by true test =

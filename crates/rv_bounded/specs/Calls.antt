@@ -1,4 +1,5 @@
--- WHAT THE PUBLIC CALLS OF A RETRIEVAL DO, one after another, each under a judge of its own.
+-- WHAT THE PUBLIC CALLS OF A RETRIEVAL DO, one after another, each under a judge of its own, over what the reader shows
+-- at the snapshot.
 use Rattle.std.specs.Prelude.{◌≡◌, ℕ, ◌+◌, List, [], ◌∷◌, Option, Some, None, IfSome}
 use Rattle.rv_judge.specs.declared.counting.Counts.{Counts}
 use Rattle.rv_judge.specs.declared.judging.Facts.{Facts}
@@ -11,13 +12,12 @@ use Rattle.rv_jscan.specs.Pieces.{Pieced}
 use Rattle.rv_retrieval.specs.declared.steps.Fg.{Fg}
 use Rattle.rv_retrieval.specs.Given.{Answers, TakesLeaf, TakesPiece}
 use Rattle.rv_retrieval.specs.Rulings.{GivesOn}
-use Rattle.rv_retrieval.specs.Shape.{Shape}
+use Rattle.rv_retrieval.specs.Shape.{RetrievalFits, Shape}
 use Rattle.rv_retrieval.specs.Stepping.{MayReadIts, OnlyTakes, StepsAs, piece_read}
 use Rattle.skew_judges.specs.Guard.{IsBounded}
 
--- a foreground step that answers, over whatever the reader shows then, from and to some state of the judge
-pub record Steps (would : ℕ → Facts → Ruling) (old new : Shape) : Type 0 where
-  pub shown : Shown
+-- a foreground step that answers, from and to some state of the judge
+pub record Steps (would : ℕ → Facts → Ruling) (shown : Shown) (old new : Shape) : Type 0 where
   pub state : ℕ
   pub after : ℕ
   pub before : Counts
@@ -26,21 +26,23 @@ pub record Steps (would : ℕ → Facts → Ruling) (old new : Shape) : Type 0 w
   pub does : StepsAs would state after shown before behind fg old new
 
 -- a foreground step for which no memory is found
-pub record StepsLost (old new : Shape) : Type 0 where
+pub record StepsLost (shown : Shown) (old new : Shape) : Type 0 where
   pub before : Counts
   pub behind : Counts
   pub only : OnlyTakes old new
   pub may_read : MayReadIts old before behind
+  pub fits : RetrievalFits new shown
   pub counts : CountsRise old.trace new.trace before behind
 
 -- the awaited piece is taken, or no memory is found for it
-pub record Takes (taken : Option Taken) (old new : Shape) : Type 0 where
+pub record Takes (taken : Option Taken) (shown : Shown) (old new : Shape) : Type 0 where
   pub before : Counts
   pub behind : Counts
   pub same : new ≡ record old { joint = new.joint; trace = new.trace }
   pub leaves : TakesLeaf old new.joint
   pub reads : behind ≡ piece_read old before
   pub answers : IfSome taken (TakesPiece new)
+  pub fits : RetrievalFits new shown
   pub counts : CountsRise old.trace new.trace before behind
 
 -- a piece is given, the awaited one or another
@@ -60,24 +62,24 @@ pub data Call : Type 0 where
   TakeLost : Call
   Give : Call
 
-abbrev pub DoesCall : Call → (ℕ → Facts → Ruling) → Shape → Shape → Type 0
-DoesCall Step would old new = Steps would old new
-DoesCall StepLost would old new = StepsLost old new
-DoesCall Take would old new = (taken : Taken) × Takes (Some taken) old new
-DoesCall TakeLost would old new = Takes None old new
-DoesCall Give would old new = Gives would old new
+abbrev pub DoesCall : Call → (ℕ → Facts → Ruling) → Shown → Shape → Shape → Type 0
+DoesCall Step would shown old new = Steps would shown old new
+DoesCall StepLost would shown old new = StepsLost shown old new
+DoesCall Take would shown old new = (taken : Taken) × Takes (Some taken) shown old new
+DoesCall TakeLost would shown old new = Takes None shown old new
+DoesCall Give would shown old new = Gives would old new
 
 -- a call under some judge that is bounded
-pub record Does (call : Call) (old new : Shape) : Type 0 where
+pub record Does (call : Call) (shown : Shown) (old new : Shape) : Type 0 where
   pub would : ℕ → Facts → Ruling
   pub bounded : IsBounded would
-  pub does : DoesCall call would old new
+  pub does : DoesCall call would shown old new
 
 -- such calls one after another, the last one first in the list. A call that leaves all as it was, as a give for which no
 -- memory is found, is none.
-abbrev pub DoesAll : List Call → Shape → Shape → Type 0
-DoesAll [] old new = new ≡ old
-DoesAll (call ∷ calls) old new = (mid : Shape) × DoesAll calls old mid × Does call mid new
+abbrev pub DoesAll : List Call → Shown → Shape → Shape → Type 0
+DoesAll [] shown old new = new ≡ old
+DoesAll (call ∷ calls) shown old new = (mid : Shape) × DoesAll calls shown old mid × Does call shown mid new
 
 -- the calls for which no memory was found, each of which may have read once in vain
 abbrev pub lost_of : Call → ℕ

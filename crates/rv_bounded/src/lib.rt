@@ -1,12 +1,15 @@
 //! Laws of what a retrieval reads under judges that are bounded, each the contract of a function that does nothing.
 #![tactic(auto)]
 
-ghost use Rattle.rv_bounded.specs.Bounds.{LeavesAreFew};
+ghost use Rattle.rv_bounded.specs.Bounds.{FastReadsAreBounded, LeavesAreFew, ReadsAreBounded, SearchesAreBounded};
+ghost use Rattle.rv_bounded.specs.Plans.{FastPlansAreBounded, PlansAreBounded};
+ghost use Rattle.rv_bounded.specs.RaceReads.{RacesAreBounded};
 ghost use Rattle.rv_bounded.specs.Races.{RacesReadFewLeaves};
+ghost use Rattle.rv_bounded.specs.UnionReads.{UnionsAreBounded};
 ghost use Rattle.rv_bounded.specs.Unions.{UnionsReadFewLeaves};
 
-/// A law: under judges that are bounded a retrieval whose foreground scans no index, so a background alone and fast-first,
-/// never reads more leaves than the table has pages and two for each planned scan.
+/// A law: under judges that are bounded a retrieval whose foreground scans no index, so a background alone and
+/// fast-first, never reads more leaves than the table has pages and two for each planned scan.
 pub fn leaves_are_few()
     ensures { LeavesAreFew }
 {}
@@ -19,4 +22,43 @@ pub fn races_read_few_leaves()
 /// A law: so does a union.
 pub fn unions_read_few_leaves()
     ensures { UnionsReadFewLeaves }
+{}
+
+/// A law: under judges that are bounded a background-only retrieval, with the fetches or the scan of the table that end
+/// it, never reads more than twice the table's pages, two leaves for each planned scan and 48 records.
+pub fn reads_are_bounded()
+    ensures { ReadsAreBounded }
+{}
+
+/// A law: a fast-first retrieval, with all that it borrows from its scans meanwhile, never reads more than 9/4 of the
+/// table's pages and 50 for each planned scan, where the table has 64 pages or more.
+pub fn fast_reads_are_bounded()
+    ensures { FastReadsAreBounded }
+{}
+
+/// A law: a background-only search for the rows that UPDATE and DELETE change keeps to the bound of a background-only
+/// retrieval.
+pub fn searches_are_bounded()
+    ensures { SearchesAreBounded }
+{}
+
+/// A law: under judges that are bounded a race, with what ends it, keeps to the bound of a background-only retrieval.
+pub fn races_are_bounded()
+    ensures { RacesAreBounded }
+{}
+
+/// A law: a union never reads more than twice the table's pages and for each member two leaves and 48 records.
+pub fn unions_are_bounded()
+    ensures { UnionsAreBounded }
+{}
+
+/// A law: a cursor's plan over one FROM item whose retrieval is background-only keeps to that retrieval's bound beside
+/// what its opening read, whatever steps are made and pieces taken and given.
+pub fn plans_are_bounded()
+    ensures { PlansAreBounded }
+{}
+
+/// A law: and one whose retrieval is fast-first to that one's.
+pub fn fast_plans_are_bounded()
+    ensures { FastPlansAreBounded }
 {}

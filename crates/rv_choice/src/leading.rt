@@ -8,8 +8,8 @@ ghost use Rattle.rv_choice.specs.Leading.{front_begun, front_candidate, guarante
 use crate::choosing::{Candidate, Choice};
 use crate::query::Query;
 use rv_judge::Strategy;
-use rv_reader::{Estimate, Reader};
-use rv_scan::{Front, Fscan, Sscan};
+use rv_reader::Reader;
+use rv_scan::{Front, Fscan};
 use rv_value::{Duplicate, Items, NoMemory, Range};
 use std::alloc::Global;
 
@@ -17,46 +17,29 @@ use std::alloc::Global;
 fn front(alloc: Global, query: &Query, candidate: &Candidate) -> Result<Front, NoMemory>
     ensures { IfOk result (λ front. front ≡ front_begun query.now candidate.now) }
 {
-    let fetched = candidate.range.copy(alloc)?;
-    let told = match candidate.range.copy(alloc) {
-        Ok(told) => told,
-        Err(fault) => {
-            drop(fetched);
-            return Err(fault);
-        }
-    };
+    let range = candidate.range.copy(alloc)?;
     let columns = match candidate.columns.copy(alloc) {
         Ok(columns) => columns,
         Err(fault) => {
-            drop(told);
-            drop(fetched);
+            drop(range);
             return Err(fault);
         }
     };
-    let fetching = Fscan::new(alloc, query.table, candidate.index, query.snap, fetched);
-    let telling = Sscan::new(alloc, candidate.index, query.snap, told);
-    Ok(Front::new(candidate.sufficient, columns, fetching, telling))
+    let fetching = Fscan::new(alloc, query.table, candidate.index, query.snap, range);
+    Ok(Front::new(candidate.sufficient, columns, fetching))
 }
 
-/// What stands for the foreground's index where no index is scanned by the foreground. It is never read.
-fn no_candidate(alloc: Global) -> Candidate
-    ensures { result ≡ no_candidate }
+/// What stands for the foreground's scan where no index is scanned by the foreground. It is never stepped.
+fn nowhere(alloc: Global, query: &Query) -> Front
+    ensures { result ≡ front_begun query.now no_candidate }
 {
-    Candidate {
-        index: 0,
-        columns: Items::new(alloc),
-        range: Range {
-            low: None,
-            high: None,
-            starts: false,
-        },
-        estimate: Estimate {
-            value: 0,
-            exact: false,
-        },
-        restricted: false,
-        sufficient: false,
-    }
+    let range = Range {
+        low: None,
+        high: None,
+        starts: false,
+    };
+    let fetching = Fscan::new(alloc, query.table, 0, query.snap, range);
+    Front::new(false, Items::new(alloc), fetching)
 }
 
 /// The foreground's scan of the candidate in a place. Where there is none it is a scan of no index, which is never
@@ -72,12 +55,7 @@ pub fn foreground(
 {
     match place {
         Some(at) => front(alloc, query, &candidates[at]),
-        None => {
-            let nowhere = no_candidate(alloc);
-            let front = front(alloc, query, &nowhere);
-            drop(nowhere);
-            front
-        }
+        None => Ok(nowhere(alloc, query)),
     }
 }
 

@@ -4,6 +4,7 @@
 
 use rv_io::{StdSink, StdSource};
 use rv_judge::{Contrary, Judge, Patient, Threshold};
+use rv_lending::let_go;
 use rv_run::{Ran, Status, behind_line, read_words, run, serve};
 use rv_shared::OpenGate;
 use rv_store::Paged;
@@ -57,7 +58,7 @@ fn whole<R: Threads + Wait + Sync>(rt: &HostRuntime, threads: &R) -> Result<Stat
             &OpenGate,
         ),
     };
-    drop(core);
+    let_go(core);
     Ok(match sink.finish() {
         Ok(()) => status,
         Err(_fault) => {

@@ -1,5 +1,5 @@
 -- A search over what the session's transaction sees: it can be asked, and finds the rows that UPDATE and DELETE change.
-use Rattle.std.proofs.Common.{◌≡◌, ◌⊎◌, ℕ, zero, suc, ◌+◌, ◌<◌, ◌≤◌, List, [], ◌∷◌, Bool, true, false, ◌&&◌, Option, Some, None, Ok, IfSome, refl, ap, sym, ◌∙◌, subst, inl, inr, arith, length, nat_lt, nat_eq, if◌then◌else◌, cond}
+use Rattle.std.proofs.Common.{◌≡◌, ◌⊎◌, ℕ, zero, suc, ◌+◌, ◌<◌, ◌≤◌, List, [], ◌∷◌, Bool, true, false, ◌&&◌, Option, Some, None, Result, Ok, Err, IfOk, IfSome, refl, ap, sym, ◌∙◌, subst, inl, inr, arith, length, nat_lt, nat_eq, if◌then◌else◌, cond}
 use Rattle.std.specs.List.{AllByRecursion, list_all}
 use Rattle.std.proofs.lemmas.Bool.{cases_Bool, and_from, ltb-true}
 use Rattle.std.proofs.lemmas.Bool.Decides.{nat_tests}
@@ -48,7 +48,7 @@ use Rattle.rv_join.proofs.Binding.{indexes_of}
 use Rattle.rv_join.proofs.Naming.{have_wide}
 use Rattle.rv_cursor.specs.Left.{seen_at}
 use Rattle.rv_core.specs.Db.{IsTied, IsViewed}
-use Rattle.rv_core.specs.Obeying.{FindsRows, HasSearched, IsLong}
+use Rattle.rv_core.specs.Obeying.{CanSearch, FindsRows, HasSearched, IsLong, MayAsk}
 use Rattle.rv_core.proofs.Plans.{plans}
 use Rattle.rv_core.proofs.Putting.{frozen_viewed}
 use Rattle.rv_core.proofs.Standing.{can_change}
@@ -188,6 +188,23 @@ finds_searched would before after shown indexes active session table only own as
     let same : own ≡ other = cc in
     subst (λ (o : Transaction). HasSearched would before after shown o table only (indexes_from table 0 indexes)) same (subst (HasSearched would before after shown own table only) is searched)
 
+-- what a search finds over a view of the transaction are the rows that it meets
+pub search_met : (shown : Shown) (own : Transaction) (view : Option Frozen) (table : ℕ) (only : List (List Atom)) (indexes : List (ℕ × List ℕ)) → CanChange shown own table only → CanSearch shown own view table only indexes → qualifying only ((seen_at shown own.base view).rows table own.base) ≡ met own table only (shown.rows table)
+search_met shown own view table only indexes change search = view_met shown own view table only change.rows search.frozen
+
+-- the judge was asked where an index narrows, or not at all
+pub may_ask : (would : ℕ → Facts → Ruling) (before after : ℕ) (shown : Shown) (indexes : List IndexDef) (active : List Transaction) (session table : ℕ) (only : List (List Atom)) (own : Transaction) (asked : List (ℕ × List ℕ)) (narrows : Bool) → writing active session ≡ Ok own
+    → asked ≡ indexes_from table 0 indexes → narrows ≡ any_narrows only asked → (narrows ≡ false → after ≡ before)
+    → (after ≡ before) ⊎ IsLong would before after shown own table only asked → (after ≡ before) ⊎ MayAsk would before after shown indexes active session table only
+may_ask would before after shown indexes active session table only own asked false writes is told quiet asks = inl (quiet refl)
+may_ask would before after shown indexes active session table only own asked true writes is told quiet (inl same) = inl same
+may_ask would before after shown indexes active session table only own asked true writes is told quiet (inr long) = inr (record {
+  own = own;
+  writes = writes;
+  narrows = ap (any_narrows only) (sym is) ∙ sym told;
+  long = subst (IsLong would before after shown own table only) is long;
+})
+
 -- where none narrows nothing is said
 pub finds_none : (would : ℕ → Facts → Ruling) (before after : ℕ) (shown : Shown) (indexes : List IndexDef) (active : List Transaction) (session table : ℕ) (only : List (List Atom)) → any_narrows only (indexes_from table 0 indexes) ≡ false → FindsRows would before after shown indexes active session table only
 finds_none would before after shown indexes active session table only none other also narrows = absurd (cc)
@@ -196,6 +213,17 @@ finds_none would before after shown indexes active session table only none other
 pub has_searched : (would : ℕ → Facts → Ruling) (before after : ℕ) (shown : Shown) (own : Transaction) (table : ℕ) (only : List (List Atom)) (indexes : List (ℕ × List ℕ)) (view : Option Frozen) (found : ℕ) (begun counts : Counts) → begun ≡ no_counts → Freezes shown own view
     → RanFetched found would before after (seen_at shown own.base view) begun counts (search_of table own.base only indexes) → HasSearched would before after shown own table only indexes
 has_searched would before after shown own table only indexes view found begun counts none frozen ran = record { view = view; frozen = frozen; found = found; counts = counts; ran = subst (λ (c : Counts). RanFetched found would before after (seen_at shown own.base view) c counts (search_of table own.base only indexes)) none ran }
+
+-- whichever way they were found
+pub finds_by : {A E : Type 0} (result : Result A E) (count : A → ℕ) (would : ℕ → Facts → Ruling) (before after : ℕ) (shown : Shown) (indexes : List IndexDef) (active : List Transaction) (session table : ℕ) (only : List (List Atom)) (own : Transaction) (asked : List (ℕ × List ℕ)) (view : Option Frozen) (begun counts : Counts) (narrows : Bool)
+    → writing active session ≡ Ok own → asked ≡ indexes_from table 0 indexes → narrows ≡ any_narrows only asked → begun ≡ no_counts → (narrows ≡ true → Freezes shown own view)
+    → (narrows ≡ true → IfOk result (λ found. RanFetched (count found) would before after (seen_at shown own.base view) begun counts (search_of table own.base only asked)))
+    → IfOk result (λ found. FindsRows would before after shown indexes active session table only)
+finds_by (Ok found) count would before after shown indexes active session table only own asked view begun counts true writes is told none frozen ran =
+    finds_searched would before after shown indexes active session table only own asked writes is (has_searched would before after shown own table only asked view (count found) begun counts none (frozen refl) (ran refl))
+finds_by (Ok found) count would before after shown indexes active session table only own asked view begun counts false writes is told none frozen ran =
+    finds_none would before after shown indexes active session table only (ap (any_narrows only) (sym is) ∙ sym told)
+finds_by (Err e) count would before after shown indexes active session table only own asked view begun counts narrows writes is told none frozen ran = tt
 
 -- a refusal touches nothing
 pub touches_none : {P : Type 0} (refusal : Refusal) (replies : Reply × Reply) → replies.0 ≡ Refused refusal → (count : ℕ) → replies.0 ≡ Touched count → P

@@ -23,6 +23,9 @@ use Rattle.rv_model.specs.Transactions.{transaction_of}
 use Rattle.rv_txn.specs.Calls.{writing}
 use Rattle.rv_overlay.specs.declared.frozen.Frozen.{Frozen}
 use Rattle.rv_own.specs.Views.{Freezes}
+use Rattle.rv_view.specs.Sights.{LaysSome}
+use Rattle.rv_snapshot.specs.Alone.{alone}
+use Rattle.rv_choice.specs.Asked.{CanAsk}
 use Rattle.rv_access.specs.Accesses.{Settled, fetches_left, query_of}
 use Rattle.rv_retrieval.specs.Short.{has_short}
 use Rattle.rv_search.specs.Searching.{Ran, RanFetched, any_narrows, search_of}
@@ -176,6 +179,13 @@ pub record MayAsk (would : ℕ → Facts → Ruling) (state after : ℕ) (shown 
   pub writes : writing active session ≡ Ok own
   pub narrows : any_narrows only (indexes_from table 0 indexes) ≡ true
   pub long : IsLong would state after shown own table only (indexes_from table 0 indexes)
+
+-- WHERE A SEARCH FOR THE ROWS OF AN UPDATE OR DELETE CAN BE MADE: over this view of the transaction, which can be asked
+pub record CanSearch (shown : Shown) (own : Transaction) (view : Option Frozen) (table : ℕ) (only : List (List Atom))
+    (indexes : List (ℕ × List ℕ)) : Type 0 where
+  pub frozen : Freezes shown own view
+  pub lays : LaysSome (alone shown own.base) view
+  pub can : CanAsk (search_of table own.base only indexes) (seen_at shown own.base view)
 
 -- a search was opened over a view of the transaction and made to its end: the judge stands where its steps leave it, and
 -- each row found was fetched

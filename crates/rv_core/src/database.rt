@@ -96,7 +96,10 @@ impl<S: Store + Reader<Ledger = Uncounted> + Drop> Database<S> {
     {
         match self.txns.own(session) {
             None => Ok(Vec::new(self.alloc)),
-            Some(own) => viewed_rows(self.alloc, own, &self.store, table),
+            Some(own) => {
+                let mut steps = Steps::new(Uncounted);
+                viewed_rows(self.alloc, own, &self.store, table, &mut steps)
+            }
         }
     }
 

@@ -52,7 +52,7 @@ impl<S: Store + Reader<Ledger = Uncounted> + Drop> Model for Engine<S> {
 
 impl<S: Store + Reader<Ledger = Uncounted> + Drop> Engine<S> {
     /// An engine with no call made, in phase 1, over a store without tables and commits. It takes no memory.
-    pub fn new(alloc: Global, store: S) -> Engine<S>
+    pub(crate) fn new(alloc: Global, store: S) -> Engine<S>
         requires tables { (S.shown store).tables ≡ 0 }
         requires newest { (S.shown store).newest ≡ 0 }
         ensures { result ≡ record { history = []; phase = 1; store = store; db = empty; horizon = 0; opens = []; opened = 1 } }
@@ -107,7 +107,7 @@ impl<S: Store + Reader<Ledger = Uncounted> + Drop> Engine<S> {
     /// Makes a session's call under a judge, with so many background steps and such races as are set: the reply is given
     /// and written to the history with the text. On `NoMemory` nothing is changed but how far the plans of cursors have
     /// come.
-    pub fn call(
+    pub(crate) fn call(
         &mut self,
         session: u8,
         text: &str,
@@ -137,7 +137,7 @@ impl<S: Store + Reader<Ledger = Uncounted> + Drop> Engine<S> {
 
     /// As `call`, of a text that goes into the history itself and not a copy of it. On `NoMemory` it is dropped.
     #[tactic(auto, using(crate::proofs::Keeping::sees_same))]
-    pub fn call_text(
+    pub(crate) fn call_text(
         &mut self,
         session: u8,
         text: Text,
@@ -178,7 +178,7 @@ impl<S: Store + Reader<Ledger = Uncounted> + Drop> Engine<S> {
     /// One turn's part of a call: as `call`, but that a FETCH makes one foreground step at most, with the background steps
     /// behind it, and answers `Working` where that step only worked on.
     #[tactic(auto, using(crate::proofs::Keeping::sees_same))]
-    pub fn call_step(
+    pub(crate) fn call_step(
         &mut self,
         session: u8,
         text: &str,
@@ -237,7 +237,7 @@ impl<S: Store + Reader<Ledger = Uncounted> + Drop> Engine<S> {
 
     /// Gives a sieved piece to the open cursor from which it was taken, on which the judge then rules. It is stale where
     /// that is closed.
-    pub fn give_piece<L: Drop>(
+    pub(crate) fn give_piece<L: Drop>(
         &mut self,
         sieved: Sieved,
         judge: &mut Box<dyn Judge>,

@@ -43,34 +43,6 @@ impl<S: Store + Reader<Ledger = Uncounted> + Drop> Core<S> {
         }
     }
 
-    /// The engine, the judge and the settings, of which `of_parts` makes the core again. So what lends the core to threads
-    /// can show its judge.
-    pub fn into_parts(self) -> (Engine<S>, Box<dyn Judge>, Settings)
-        ensures engine { result.0 ≡ self.engine }
-        ensures judge { result.1 ≡ self.judge }
-        ensures settings { result.2 ≡ self.settings }
-    {
-        let Core {
-            engine,
-            judge,
-            settings,
-        } = self;
-        (engine, judge, settings)
-    }
-
-    /// The core of an engine, a judge and settings.
-    pub fn of_parts(engine: Engine<S>, judge: Box<dyn Judge>, settings: Settings) -> Core<S>
-        ensures engine { result.engine ≡ engine }
-        ensures judge { result.judge ≡ judge }
-        ensures settings { result.settings ≡ settings }
-    {
-        Core {
-            engine,
-            judge,
-            settings,
-        }
-    }
-
     /// The entries of the calls that were answered, in order.
     pub fn history(&self) -> &[Entry]
         ensures entries { result.now ≡ self.now.engine.history }

@@ -1,5 +1,5 @@
 //! Calls on the catalog and the store that go together.
-ghost use Rattle.std.specs.Prelude.{◌≡◌, ℕ, List, ◌⊎◌, ◌+◌, ◌<◌, ◌≤◌, ◌-◌, ◌^◌, ◌++◌, ◌∷◌, [], None, Ok, Err, true, IfOk, IfErr, OnOk, OnErr, IfSome, length};
+ghost use Rattle.std.specs.Prelude.{◌≡◌, ℕ, List, ◌⊎◌, ◌+◌, ◌<◌, ◌≤◌, ◌-◌, ◌^◌, ◌++◌, ◌∷◌, [], None, Ok, Err, true, false, IfOk, IfErr, OnOk, OnErr, IfSome, length};
 ghost use Rattle.std.specs.List.{AllByRecursion, slice_index_or};
 ghost use Rattle.std.specs.Option.{option_copied};
 ghost use Rattle.rv_catalog.specs.Fits.{IsRowOf, is_over_table};
@@ -7,6 +7,7 @@ ghost use Rattle.rv_catalog.specs.Kept.{indexes_over};
 ghost use Rattle.rv_catalog.specs.Schema.{index_named, table_named};
 ghost use Rattle.rv_reader.specs.Storing.{AreColumns, CanCommit, Created, Indexed, IsSame, IsStored};
 ghost use Rattle.rv_txn.specs.Calls.{IsFault, finished, writing};
+ghost use Rattle.rv_txn.specs.Changing.{CanChange, OnlyPages};
 ghost use Rattle.rv_txn.specs.Halves.{changing, with_these};
 ghost use Rattle.rv_view.specs.Sights.{LaysSome};
 ghost use Rattle.rv_snapshot.specs.Alone.{alone};
@@ -23,7 +24,7 @@ ghost use Rattle.rv_rows.specs.Changes.{Rise};
 ghost use Rattle.rv_rows.specs.Kept.{lent_changes};
 ghost use Rattle.rv_own.specs.Views.{AreViews, CanKeep, Freezes, others};
 ghost use Rattle.rv_core.specs.Db.{IsTied, db_of};
-ghost use Rattle.rv_core.specs.Obeying.{FindsRows, HasSearched, IsLong, MayAsk};
+ghost use Rattle.rv_core.specs.Obeying.{CanSearch, FindsRows, IsLong, MayAsk};
 ghost use Rattle.rv_model.specs.Step.{row_alone, rows_alone};
 ghost use Rattle.rv_core.specs.Storing.{Commits, CommitsTo, changed_alone, changed_over, inserted_alone, lone_over};
 
@@ -300,42 +301,57 @@ fn rows_seen<R: Reader>(
     )
 }
 
-/// The rows of a table in the view of the session's transaction for which WHERE is True, found by a search at its base under
-/// its changes.
-fn searched_rows<S: Store + Reader<Ledger = Uncounted>>(
+/// The rows of a table in a transaction's view for which WHERE is True. Where WHERE narrows an index they are found by a search
+/// over what is laid over the transaction's base, else page by page as the store lends them. All that is read here goes through
+/// the counter, which is of the store's own kind and cannot be made here: so no page is read beside a search.
+fn found_by<S: Store>(
     alloc: Global,
+    store: &S,
+    own: &Transaction,
+    view: &Option<View>,
+    table: u32,
+    only: &Restriction,
+    indexes: Items<(u32, Items<u32>)>,
+    narrows: bool,
+    judge: &mut Box<dyn Judge>,
+    steps: &mut Steps<S::Ledger>,
+) -> Result<Vec<Record>, NoMemory>
+    requires change { CanChange (S.shown store.now) own.now table only.now }
+    requires search { narrows ≡ true → CanSearch (S.shown store.now) own.now view.now table only.now indexes }
+    ensures rows { IfOk result (λ rows. rows.items ≡ met own.now table only.now ((S.shown store.now).rows table)) }
+    ensures stays { would judge.new ≡ would judge.old }
+    ensures asks { (state judge.new ≡ state judge.old) ⊎ IsLong (would judge.old) (state judge.old) (state judge.new) (S.shown store.now) own.now table only.now indexes }
+    ensures quiet { narrows ≡ false → state judge.new ≡ state judge.old }
+    ensures searched { narrows ≡ true → IfOk result (λ rows. RanFetched (length rows.items) (would judge.old) (state judge.old) (state judge.new) (seen_at (S.shown store.now) own.now.base view.now) steps.old steps.new (search_of table own.now.base only.now indexes)) }
+    ensures pages { narrows ≡ false → OnlyPages ((S.shown store.now).pages table own.now.base) steps.old steps.new }
+{
+    if narrows {
+        rows_seen(
+            alloc, store, table, own.base, view, only, indexes, judge, steps,
+        )
+    } else {
+        met_rows(alloc, own, store, table, only, steps)
+    }
+}
+
+/// The view of the session's transaction, where a search is to be made over it.
+fn view_for<S: Store + Reader<Ledger = Uncounted>>(
+    narrows: bool,
     catalog: &Catalog,
     store: &S,
     txns: &Txns,
     views: &mut Views,
     session: u8,
-    own: &Transaction,
-    table: u32,
-    only: &Restriction,
-    indexes: Items<(u32, Items<u32>)>,
-    judge: &mut Box<dyn Judge>,
-) -> Result<Vec<Record>, NoMemory>
+) -> Result<Option<View>, NoMemory>
     requires tied { IsTied (S.shown store.now) catalog.now txns.now }
-    requires there { table < length catalog.now.tables }
-    requires over { is_over_table catalog.now.tables table only.now ≡ true }
-    requires few { length catalog.now.indexes ≤ 512 }
-    requires indexes { indexes ≡ indexes_from table 0 catalog.now.indexes }
-    requires writes { writing txns.now.active session ≡ Ok own.now }
     requires views { AreViews (S.shown store.now) txns.now.active views.old }
-    ensures rows { IfOk result (λ rows. rows.items ≡ met own.now table only.now ((S.shown store.now).rows table)) }
+    ensures freezes { narrows ≡ true → IfOk result (λ frozen. IfSome (transaction_of txns.now.active session) (λ own. Freezes (S.shown store.now) (transaction_at txns.now.active own) frozen)) }
     ensures views { AreViews (S.shown store.now) txns.now.active views.new }
-    ensures stays { would judge.new ≡ would judge.old }
-    ensures asks { (state judge.new ≡ state judge.old) ⊎ IsLong (would judge.old) (state judge.old) (state judge.new) (S.shown store.now) own.now table only.now indexes }
-    ensures searched { IfOk result (λ rows. HasSearched (would judge.old) (state judge.old) (state judge.new) (S.shown store.now) own.now table only.now indexes) }
 {
-    // What a store tells with its newest commit holds of all its rows.
-    let _newest = store.last();
-    let view = freeze(catalog, store, txns, views, session)?;
-    let mut steps = Steps::new(Uncounted);
-    let rows = rows_seen(
-        alloc, store, table, own.base, &view, only, indexes, judge, &mut steps,
-    )?;
-    Ok(rows)
+    if !narrows {
+        return Ok(None);
+    }
+    freeze(catalog, store, txns, views, session)
 }
 
 /// The rows of a table in the view of the session's transaction for which WHERE is True. Where WHERE gives an index of the
@@ -366,14 +382,12 @@ fn met_by<S: Store + Reader<Ledger = Uncounted>>(
     // What a store tells with its newest commit holds of its indexes.
     let _newest = store.last();
     let indexes = indexes_over(alloc, table, catalog.indexes())?;
-    let searched = any_narrows(alloc, only, indexes.as_slice())?;
-    if searched {
-        searched_rows(
-            alloc, catalog, store, txns, views, session, own, table, only, indexes, judge,
-        )
-    } else {
-        met_rows(alloc, own, store, table, only)
-    }
+    let narrows = any_narrows(alloc, only, indexes.as_slice())?;
+    let view = view_for(narrows, catalog, store, txns, views, session)?;
+    let mut steps = Steps::new(Uncounted);
+    found_by(
+        alloc, store, own, &view, table, only, indexes, narrows, judge, &mut steps,
+    )
 }
 
 /// The changes that an UPDATE or DELETE would make. A session that has no transaction which may write is refused before any

@@ -1,5 +1,5 @@
 -- Of how many records a plan fetches that moves.
-use Rattle.std.proofs.Common.{◌≡◌, ℕ, ◌+◌, ◌-◌, ◌≤◌, List, [], ◌∷◌, ◌++◌, length, Option, Some, None, refl, ap, sym, ◌∙◌, subst, arith, zero, suc, zero-add, le-add_right}
+use Rattle.std.proofs.Common.{◌≡◌, ◌⊎◌, inl, inr, ℕ, ◌+◌, ◌-◌, ◌≤◌, List, [], ◌∷◌, ◌++◌, length, Option, Some, None, refl, ap, sym, ◌∙◌, subst, arith, zero, suc, zero-add, le-add_right}
 use Rattle.rv_judge.specs.declared.counting.Counts.{Counts}
 use Rattle.rv_judge.specs.declared.judging.Facts.{Facts}
 use Rattle.rv_judge.specs.Verdicts.{Ruling}
@@ -14,7 +14,7 @@ use Rattle.rv_join.specs.Plans.{Planned}
 use Rattle.rv_join.specs.declared.plan.PlanStep.{PlanStep}
 use Rattle.rv_join.specs.declared.plan.PlanStep.TheVariants.{Row, End, Working}
 use Rattle.rv_cursor.specs.Fetches.{LosesNone, lost_in, lost_of}
-use Rattle.rv_cursor.specs.Moves.{BesideBy, FetchMoves, GivesBack, Move, MovesBy, MovesByAll, Ruled, StepsBack, StepsBacks, StepsBeside, TakesOut, Turn, TurnMoves, TurnsOn}
+use Rattle.rv_cursor.specs.Moves.{Beside, BesideBy, EndsBeside, FetchMoves, GivesBack, LacksBeside, Move, MovesBy, MovesByAll, Ruled, StepsBack, StepsBacks, StepsBeside, TakesOut, Turn, TurnMoves, TurnsOn}
 use Rattle.rv_cursor.specs.Moves.Move.{Front, Lost, Take, Give}
 use Rattle.rv_cursor.proofs.Moving.{all_on}
 
@@ -116,10 +116,18 @@ besides_lose : (done : ℕ) (would : ℕ → Facts → Ruling) (shown : Shown) (
 besides_lose zero would shown old new steps = lose_nothing would shown old new steps
 besides_lose (suc n) would shown old new steps = lose_on would shown old steps.0 new (besides_lose n would shown old steps.0 steps.1) (back_loses would shown steps.0 new steps.3)
 
+-- the take of one for which no memory was found is no foreground step
+ends_lose : (done most : ℕ) (would : ℕ → Facts → Ruling) (shown : Shown) (last new : Ruled) → EndsBeside done most last new ⊎ LacksBeside done most shown last new → LosesNone would shown last new
+ends_lose done most would shown last new (inl ends) = lose_nothing would shown last new ends.same
+ends_lose done most would shown last new (inr lacks) = record { moves = Take ∷ []; made = (last, refl, lacks.lacks.takes); none = refl }
+
+all_beside : (most : ℕ) (would : ℕ → Facts → Ruling) (shown : Shown) (old new : Ruled) → Beside most would shown old new → LosesNone would shown old new
+all_beside most would shown old new beside = lose_on would shown old beside.last new (besides_lose beside.done would shown old beside.last beside.steps) (ends_lose beside.done most would shown beside.last new beside.ends)
+
 beside_loses : (step : PlanStep) (most : ℕ) (would : ℕ → Facts → Ruling) (shown : Shown) (old new : Ruled) → BesideBy step most would shown old new → LosesNone would shown old new
-beside_loses (Row o) most would shown old new beside = besides_lose beside.done would shown old new beside.steps
+beside_loses (Row o) most would shown old new beside = all_beside most would shown old new beside
 beside_loses End most would shown old new same = lose_nothing would shown old new same
-beside_loses Working most would shown old new beside = besides_lose beside.done would shown old new beside.steps
+beside_loses Working most would shown old new beside = all_beside most would shown old new beside
 
 pub turn_loses : (step : PlanStep) (most : ℕ) (would : ℕ → Facts → Ruling) (shown : Shown) (old new : Ruled) → Turn step most would shown old new → LosesNone would shown old new
 turn_loses step most would shown old new turn = lose_on would shown old turn.stepped new (record { moves = Front ∷ []; made = (old, refl, (step, turn.front)); none = refl }) (beside_loses step most would shown turn.stepped new turn.beside)

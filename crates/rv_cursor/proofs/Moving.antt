@@ -8,6 +8,7 @@ use Rattle.rv_lang.specs.declared.reply.Reply.{Reply}
 use Rattle.rv_model.specs.declared.state.Offer.{Offer}
 use Rattle.rv_reader.specs.Shown.{Shown}
 use Rattle.rv_jscan.specs.Pieces.{Pieced}
+use Rattle.rv_jscan.specs.declared.piece.PieceId.{PieceId}
 use Rattle.rv_jscan.specs.declared.jscan.Given.{Given}
 use Rattle.rv_jscan.specs.declared.jscan.Given.TheVariants.{Accepted, Stale}
 use Rattle.rv_access.specs.Accesses.{Settled}
@@ -21,7 +22,7 @@ use Rattle.rv_join.specs.Pieces.{GivesPiece, counted_up, plan_awaited, plan_piec
 use Rattle.rv_join.specs.Plans.{PlanKept, PlanMoves, PlanStays, Planned, WorkTo, plan_trace, plan_work}
 use Rattle.rv_join.specs.declared.plan.PlanStep.{PlanStep}
 use Rattle.rv_join.specs.declared.plan.PlanStep.TheVariants.{Row, End, Working}
-use Rattle.rv_cursor.specs.Moves.{Beside, BesideBy, FetchMoves, GivesBack, Move, Moves, MovesBy, MovesByAll, RepliesTo, Ruled, StepsBack, StepsBacks, StepsBeside, StepsFront, TakesOut, Turn, TurnMoves, TurnsOn, WorksPiece}
+use Rattle.rv_cursor.specs.Moves.{Beside, BesideBy, FetchMoves, GivesBack, LacksMemory, Move, Moves, MovesBy, MovesByAll, RepliesTo, Ruled, StepsBack, StepsBacks, StepsBeside, StepsFront, TakesOut, Turn, TurnMoves, TurnsOn, WorksPiece}
 use Rattle.rv_cursor.specs.Moves.Move.{Front, Take, Give}
 
 -- Moves.
@@ -94,9 +95,20 @@ back_is would shown state c d old mid new reads counts once awaited pieces cours
 pub back_moves : (would : ℕ → Facts → Ruling) (shown : Shown) (old new : Ruled) → StepsBack would shown old new → Moves would shown old new
 back_moves would shown old new back = record { moves = Give ∷ Take ∷ []; made = (back.taken, (old, refl, back.takes), back.gives) }
 
--- a piece was taken, and no memory was found to give it
-pub still_moves : (would : ℕ → Facts → Ruling) (shown : Shown) (state after : ℕ) (old mid new : Planned) → TakesOut shown (record { plan = old; judge = state }) (record { plan = mid; judge = state }) → new ≡ mid → after ≡ state → Moves would shown (record { plan = old; judge = state }) (record { plan = new; judge = after })
-still_moves would shown state after old mid new takes same quiet = rw (same, quiet) (moves_by Take would shown (record { plan = old; judge = state }) (record { plan = mid; judge = state }) takes)
+-- no memory was found to take the awaited piece
+pub lacks_take : (shown : Shown) (old new : Ruled) → (plan_awaited old.plan ≡ None → ⊥) → TakesOut shown old new → LacksMemory shown old new
+lacks_take shown old new some takes = record { awaits = some_is (plan_awaited old.plan) some; takes = takes }
+  where
+    some_is : {X : Type 0} (o : Option X) → (o ≡ None → ⊥) → IsSome o
+    some_is (Some x) h = refl
+    some_is None h = absurd (h refl)
+
+-- it was taken, and no memory was found to give it
+pub lacks_give : (shown : Shown) (state after : ℕ) (id : PieceId) (old mid new : Planned) → plan_awaited old ≡ Some id → TakesOut shown (record { plan = old; judge = state }) (record { plan = mid; judge = state }) → new ≡ mid → after ≡ state → LacksMemory shown (record { plan = old; judge = state }) (record { plan = new; judge = after })
+lacks_give shown state after id old mid new is takes same quiet = rw (same, quiet) (record { awaits = subst IsSome (sym is) refl; takes = takes })
+
+pub lacks_moves : (would : ℕ → Facts → Ruling) (shown : Shown) (old new : Ruled) → LacksMemory shown old new → Moves would shown old new
+lacks_moves would shown old new lacks = moves_by Take would shown old new lacks.takes
 
 -- none is awaited
 pub none_works : (state : ℕ) (old new : Planned) → plan_awaited old ≡ None → new ≡ old → (plan_awaited old ≡ None) × (◌≡◌ {A = Ruled} (record { plan = new; judge = state }) (record { plan = old; judge = state }))
@@ -123,13 +135,17 @@ beside_more done v w s t a b c rule seen first builds back = subst (λ (n : ℕ)
 
 -- they end: none is awaited, no retrieval has both sides running, or there were as many as asked
 pub beside_none : (most done : ℕ) (w : ℕ → Facts → Ruling) (t : Shown) (a b c : Ruled) → done < most → StepsBeside done w t a b → (plan_awaited b.plan ≡ None) × (c ≡ b) → Beside most w t a c
-beside_none most done w t a b c less first none = record { done = done; within = omega (arith, less); steps = subst (StepsBeside done w t a) (sym none.1) first; ends = λ l. inr (none_then b c none) }
+beside_none most done w t a b c less first none = record { done = done; within = omega (arith, less); last = b; steps = first; ends = inl (record { same = none.1; fewer = λ l. inr none.0 }) }
 
 pub beside_stopped : (most done : ℕ) (w : ℕ → Facts → Ruling) (shown : Shown) (a b : Ruled) → done < most → StepsBeside done w shown a b → stack_builds b.plan.stack ≡ false → Beside most w shown a b
-beside_stopped most done w shown a b less first stopped = record { done = done; within = omega (arith, less); steps = first; ends = λ l. inl stopped }
+beside_stopped most done w shown a b less first stopped = record { done = done; within = omega (arith, less); last = b; steps = first; ends = inl (record { same = refl; fewer = λ l. inl stopped }) }
 
 pub beside_full : (most done : ℕ) (w : ℕ → Facts → Ruling) (shown : Shown) (a b : Ruled) → most ≤ done → done ≤ most → StepsBeside done w shown a b → Beside most w shown a b
-beside_full most done w shown a b full within first = record { done = done; within = within; steps = first; ends = λ l. absurd (omega (arith, full, l)) }
+beside_full most done w shown a b full within first = record { done = done; within = within; last = b; steps = first; ends = inl (record { same = refl; fewer = λ l. absurd (omega (arith, full, l)) }) }
+
+-- no memory was found for one of them
+pub beside_lacks : (most done : ℕ) (w : ℕ → Facts → Ruling) (s t : Shown) (a b c : Ruled) → s ≡ t → done < most → StepsBeside done w t a b → stack_builds b.plan.stack ≡ true → LacksMemory s b c → Beside most w t a c
+beside_lacks most done w s t a b c seen less first builds lacks = record { done = done; within = omega (arith, less); last = b; steps = first; ends = inr (record { fewer = less; builds = builds; lacks = subst (λ (x : Shown). LacksMemory x b c) seen lacks }) }
 
 -- Turns of a fetch.
 

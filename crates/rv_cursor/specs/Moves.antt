@@ -120,6 +120,11 @@ abbrev pub WorksPiece : Bool → (ℕ → Facts → Ruling) → Shown → Ruled 
 WorksPiece true would shown old new = StepsBack would shown old new
 WorksPiece false would shown old new = (plan_awaited old.plan ≡ None) × (new ≡ old)
 
+-- NO MEMORY WAS FOUND FOR A BACKGROUND STEP: of the piece that is awaited the leaf may be held now, and it was not given
+pub record LacksMemory (shown : Shown) (old new : Ruled) : Type 0 where
+  pub awaits : IsSome (plan_awaited old.plan)
+  pub takes : TakesOut shown old new
+
 -- so many background steps
 abbrev pub StepsBacks : ℕ → (ℕ → Facts → Ruling) → Shown → Ruled → Ruled → Type 0
 StepsBacks zero would shown old new = new ≡ old
@@ -133,12 +138,25 @@ StepsBeside (suc n) would shown old new =
     (mid : Ruled) × StepsBeside n would shown old mid × (stack_builds mid.plan.stack ≡ true)
     × StepsBack would shown mid new
 
--- up to so many of them; fewer only where no retrieval has both sides running, or none awaits a piece
+-- they are as many as asked, or no retrieval has both sides running, or none awaits a piece
+pub record EndsBeside (done most : ℕ) (last new : Ruled) : Type 0 where
+  pub same : new ≡ last
+  pub fewer : done < most → (stack_builds last.plan.stack ≡ false) ⊎ (plan_awaited last.plan ≡ None)
+
+-- one more was to be done, for which no memory was found
+pub record LacksBeside (done most : ℕ) (shown : Shown) (last new : Ruled) : Type 0 where
+  pub fewer : done < most
+  pub builds : stack_builds last.plan.stack ≡ true
+  pub lacks : LacksMemory shown last new
+
+-- UP TO SO MANY OF THEM; fewer only where no retrieval has both sides running, none awaits a piece, or no memory was
+-- found for the next one
 pub record Beside (most : ℕ) (would : ℕ → Facts → Ruling) (shown : Shown) (old new : Ruled) : Type 0 where
   pub done : ℕ
   pub within : done ≤ most
-  pub steps : StepsBeside done would shown old new
-  pub ends : done < most → (stack_builds new.plan.stack ≡ false) ⊎ (plan_awaited new.plan ≡ None)
+  pub last : Ruled
+  pub steps : StepsBeside done would shown old last
+  pub ends : EndsBeside done most last new ⊎ LacksBeside done most shown last new
 
 -- A TURN OF A FETCH, which is what it does before another call may come between.
 

@@ -13,9 +13,9 @@ ghost use Rattle.rv_model.specs.Offering.{offers_over};
 ghost use Rattle.rv_model.specs.Offers.{offers_in_order};
 ghost use Rattle.rv_snapshot.specs.Alone.{alone};
 ghost use Rattle.rv_view.specs.Sights.{LaysSome};
-ghost use Rattle.rv_join.specs.Pieces.{plan_awaited, plan_pieces};
+ghost use Rattle.rv_join.specs.Pieces.{plan_awaited};
 ghost use Rattle.rv_cursor.specs.Left.{CursorFits, Stays, left, seen_at, seen_by, work};
-ghost use Rattle.rv_cursor.specs.Moves.{Moves, WorksPiece, ruled};
+ghost use Rattle.rv_cursor.specs.Moves.{LacksMemory, Moves, WorksPiece, ruled};
 
 use crate::sight::Sight;
 use rv_catalog::{IndexDef, Select};
@@ -106,7 +106,7 @@ pub fn open_cursor<R: Reader>(
 }
 
 /// Takes, sieves and gives the piece that the plan awaits; whether there was one. Nothing comes between, so that it is
-/// accepted.
+/// accepted. Where no memory is found, its leaf may be held from then on.
 pub fn work_piece<R: Reader>(
     cursor: &mut Open,
     reader: &R,
@@ -121,7 +121,7 @@ pub fn work_piece<R: Reader>(
     ensures moves { Moves (would judge.old) (seen_by (R.shown reader.now) cursor.old) (ruled cursor.old (state judge.old)) (ruled cursor.new (state judge.new)) }
     ensures stays_rule { would judge.new ≡ would judge.old }
     ensures none { plan_awaited cursor.old.plan ≡ None → (result ≡ Ok false) × (steps.new ≡ steps.old) }
-    ensures err { OnErr result (plan_pieces cursor.new.plan ≡ plan_pieces cursor.old.plan) }
+    ensures lacks { OnErr result (LacksMemory (seen_by (R.shown reader.now) cursor.old) (ruled cursor.old (state judge.old)) (ruled cursor.new (state judge.new))) }
 {
     let at = Snapshot {
         reader,

@@ -53,7 +53,8 @@ fn give(alloc: Global, cursor: &mut Open) -> Result<(Reply, Reply), NoMemory>
     Ok(replies_of(given, kept))
 }
 
-/// Up to so many background steps, as long as both sides of some retrieval run.
+/// Up to so many background steps, as long as both sides of some retrieval run. Where no memory is found for one of them they
+/// end, and what FETCH answers does not tell it.
 #[tactic(auto, using(crate::proofs::Holding::stays_itself, crate::proofs::Holding::stays_on))]
 fn work_beside<R: Reader>(
     cursor: &mut Open,
@@ -61,26 +62,25 @@ fn work_beside<R: Reader>(
     judge: &mut Box<dyn Judge>,
     most: u8,
     steps: &mut Steps<R::Ledger>,
-) -> Result<(), NoMemory>
+)
     requires fits { CursorFits (R.shown reader.now) cursor.old }
     ensures stays { Stays (R.shown reader.now) cursor.old cursor.new }
     ensures hand { cursor.new.hand ≡ cursor.old.hand }
     ensures work { work (R.shown reader.now) cursor.new ≤ work (R.shown reader.now) cursor.old }
-    ensures beside { OnOk result (Beside most (would judge.old) (seen_by (R.shown reader.now) cursor.old) (ruled cursor.old (state judge.old)) (ruled cursor.new (state judge.new))) }
+    ensures beside { Beside most (would judge.old) (seen_by (R.shown reader.now) cursor.old) (ruled cursor.old (state judge.old)) (ruled cursor.new (state judge.new)) }
     ensures moves { Moves (would judge.old) (seen_by (R.shown reader.now) cursor.old) (ruled cursor.old (state judge.old)) (ruled cursor.new (state judge.new)) }
     ensures stays_rule { would judge.new ≡ would judge.old }
 {
     'pieces: for _done in 0..most {
         if !cursor.plan.is_building() {
-            return Ok(());
+            return;
         }
         match work_piece(cursor, reader, judge, steps) {
             Ok(true) => {}
-            Ok(false) => return Ok(()),
-            Err(NoMemory) => return Err(NoMemory),
+            Ok(false) => return,
+            Err(NoMemory) => return,
         }
     }
-    Ok(())
 }
 
 /// One turn of a FETCH, behind which another call may come: a row of those left, none of which comes before it, or End
@@ -120,13 +120,13 @@ pub fn fetch_step<R: Reader>(
     match cursor.plan.step(&seen, judge, steps)? {
         PlanStep::Row(offer) => {
             drop(cursor.hand.replace(offer));
-            work_beside(cursor, reader, judge, beside, steps)?;
+            work_beside(cursor, reader, judge, beside, steps);
             Ok(Some(give(alloc, cursor)?))
         }
-        PlanStep::Working => match work_beside(cursor, reader, judge, beside, steps) {
-            Ok(()) => Ok(None),
-            Err(NoMemory) => Err(NoMemory),
-        },
+        PlanStep::Working => {
+            work_beside(cursor, reader, judge, beside, steps);
+            Ok(None)
+        }
         PlanStep::End => Ok(Some(twice(alloc, Reply::End)?)),
     }
 }

@@ -1,4 +1,5 @@
 pub mod Choices
+pub mod Early
 pub mod Names
 pub mod Known
 pub mod May

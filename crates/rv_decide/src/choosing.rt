@@ -1,11 +1,12 @@
-//! The offers of a query: nested loops over lists of rows, one list for each FROM item.
+//! The offers of a query: nested loops over lists of rows, one list for each FROM item. Behind rows on which a group is not
+//! True there is no loop.
 ghost use Rattle.std.specs.Prelude.{◌≡◌, ◌++◌, ℕ, List, [], map, IfOk, OnOk};
 ghost use Rattle.rv_value.specs.declared.record.Record.{Record as OneRecord};
 ghost use Rattle.rv_value.specs.declared.value.Value.TheVariants.{Null};
 ghost use Rattle.rv_model.specs.Offering.{offer_over, offers_over, picked_over};
 ghost use Rattle.rv_decide.specs.Choosing.{offer_kept, offers_from};
 
-use crate::truths::{is_kept, value_at};
+use crate::truths::{is_kept, may_go_on, value_at};
 use rv_catalog::Select;
 use rv_model::Offer;
 use rv_restrict::ColRef;
@@ -13,7 +14,9 @@ use rv_value::{Duplicate, Items, NoMemory, Record, Value, Values};
 use std::alloc::Global;
 
 /// The offers of a query, one for each choice of one row per FROM item on which its restriction is True, where each list
-/// has the rows of the item in its place. It tests every choice, and keeps one choice at a time.
+/// has the rows of the item in its place. It keeps one choice at a time, and tests each group as soon as the items that it
+/// names are chosen: the rows of an item are gone through once for each choice of the items before on which no group is
+/// other than True.
 pub fn offers_over(
     alloc: Global,
     select: &Select,
@@ -27,7 +30,8 @@ pub fn offers_over(
     Ok(found)
 }
 
-/// Adds the offers of all choices that begin with the rows chosen.
+/// Adds the offers of all choices that begin with the rows chosen; there are none where a group that the last of these
+/// decides is not True.
 fn choose(
     alloc: Global,
     select: &Select,
@@ -38,6 +42,9 @@ fn choose(
     ensures found { OnOk result (found.new.items ≡ found.old.items ++ offers_from select.now lists.now chosen.old.items) }
     ensures same { OnOk result (chosen.new.items ≡ chosen.old.items) }
 {
+    if !may_go_on(&select.only, chosen.as_slice()) {
+        return Ok(());
+    }
     match lists {
         [] => add_offer(alloc, select, chosen.as_slice(), found),
         [rows, more @ ..] => {

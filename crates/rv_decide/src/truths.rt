@@ -1,11 +1,14 @@
-//! The truth of a restriction on one row for each FROM item, column by column.
-ghost use Rattle.std.specs.Prelude.{◌≡◌};
+//! The truth of a restriction on one row for each FROM item, column by column, and of those of its groups that the rows of
+//! the first items decide.
+ghost use Rattle.std.specs.Prelude.{◌≡◌, true};
 ghost use Rattle.rv_value.specs.declared.value.Value.TheVariants.{Null};
-ghost use Rattle.rv_restrict.specs.Bind.{rows_reads};
-ghost use Rattle.rv_restrict.specs.Truth.{is_null};
+ghost use Rattle.rv_restrict.specs.Bind.{atom_place, group_place, operand_place, rows_reads, taken};
+ghost use Rattle.rv_restrict.specs.Groups.{groups_of};
+ghost use Rattle.rv_restrict.specs.Truth.{group_names_only, group_truth, is_null, is_true, names_only, truth_by};
 ghost use Rattle.rv_model.specs.Offering.{is_kept};
+ghost use Rattle.rv_decide.specs.Choosing.{may_go_on};
 
-use rv_restrict::{ColRef, Reads, Restriction, Tri};
+use rv_restrict::{Atom, ColRef, Operand, Reads, Restriction, Tri};
 use rv_value::{Value, Values};
 
 /// One row for each place. It has any column: one that a row lacks is NULL.
@@ -34,6 +37,88 @@ pub fn is_kept(only: &Restriction, rows: &[Values]) -> bool
     match only.truth_on(&Chosen { rows, null: &null }) {
         Tri::True => true,
         Tri::False | Tri::Unknown => false,
+    }
+}
+
+/// Whether a choice may go on behind rows for the first places: the groups that name the last of these, and none behind, are
+/// True on them.
+pub fn may_go_on(only: &Restriction, rows: &[Values]) -> bool
+    ensures { result ≡ may_go_on only.now rows.now }
+{
+    match rows {
+        [] => true,
+        [_first, others @ ..] => {
+            let null = Value::Null;
+            are_true_at(only.groups(), others.len(), &Chosen { rows, null: &null })
+        }
+    }
+}
+
+/// Whether the groups are True whose highest place is this one. It ends at the first that is not.
+#[tactic(auto, using(crate::proofs::Early::true_lesser))]
+fn are_true_at<R: Reads>(groups: &[Vec<Atom>], place: usize, rows: &R) -> bool
+    requires { names_only (R.has rows.now) (groups_of groups.now) ≡ true }
+    ensures { result ≡ is_true (truth_by (R.reads rows.now) (taken place (groups_of groups.now))) }
+{
+    match groups {
+        [] => true,
+        [group, more @ ..] => {
+            if highest(group.as_slice()) as usize == place && !is_true(group.as_slice(), rows) {
+                return false;
+            }
+            are_true_at(more, place, rows)
+        }
+    }
+}
+
+/// Whether some atom is True. It ends at the first that is.
+#[tactic(auto, using(crate::proofs::Early::unknown_or))]
+fn is_true<R: Reads>(atoms: &[Atom], rows: &R) -> bool
+    requires { group_names_only (R.has rows.now) atoms.now ≡ true }
+    ensures { result ≡ is_true (group_truth (R.reads rows.now) atoms.now) }
+{
+    match atoms {
+        [] => false,
+        [atom, more @ ..] => match atom.truth(rows) {
+            Tri::True => true,
+            Tri::False | Tri::Unknown => is_true(more, rows),
+        },
+    }
+}
+
+/// The highest place that a group names, 0 where it names none.
+fn highest(atoms: &[Atom]) -> u32
+    ensures { result ≡ group_place atoms.now }
+{
+    match atoms {
+        [] => 0,
+        [atom, more @ ..] => highest_of_atom(atom).max(highest(more)),
+    }
+}
+
+fn highest_of_atom(atom: &Atom) -> u32
+    ensures { result ≡ atom_place atom.now }
+{
+    match atom {
+        Atom::Compare {
+            column,
+            op: _,
+            operand,
+        } => column.place.max(highest_of_operand(operand)),
+        Atom::Between { column, .. } => column.place,
+        Atom::Among { column, .. } => column.place,
+        Atom::IsNull { column, .. } => column.place,
+        Atom::Starts { column, .. } => column.place,
+        Atom::Const(_) => 0,
+    }
+}
+
+fn highest_of_operand(operand: &Operand) -> u32
+    ensures { result ≡ operand_place operand.now }
+{
+    match operand {
+        Operand::Literal(_) => 0,
+        Operand::Column(column) => column.place,
     }
 }
 

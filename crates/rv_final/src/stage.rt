@@ -8,7 +8,7 @@ ghost use Rattle.rv_reader.specs.Shown.{CanRead};
 ghost use Rattle.rv_reader.specs.Tables.{row_at};
 ghost use Rattle.rv_scan.specs.Alongs.{looked};
 ghost use Rattle.rv_scan.specs.Due.{HaveColumns, was_delivered};
-ghost use Rattle.rv_scan.specs.Places.{Fits as PlaceFits, PageReads, work};
+ghost use Rattle.rv_scan.specs.Places.{Fits as PlaceFits, PageReads, PageTurns, work};
 ghost use Rattle.rv_jscan.specs.Joint.{keys_of};
 ghost use Rattle.rv_final.specs.Rest.{StepMarks};
 ghost use Rattle.rv_final.specs.Stage.{FetchesKey, IsFirstKey, KeyAt, PassesKeys, Unbegun, first_key, given_as, keys_left, list_left, own_pages, own_rows, table_left};
@@ -220,6 +220,7 @@ impl Final {
         ensures marks { (need : List ℕ) → IfOk result (λ s. StepMarks need only.now (own_rows self.old.last (R.shown reader.now)) s (table_left self.old.last (own_rows self.old.last (R.shown reader.now)) (option_copied delivered.entry)) (table_left self.new.last (own_rows self.old.last (R.shown reader.now)) (option_copied delivered.entry))) }
         ensures err { OnErr result (self.new ≡ self.old) }
         ensures reads { IfOk result (λ s. PageReads s steps.old steps.new) }
+        ensures turns { IfOk result (λ s. PageTurns s self.old.last self.new.last (own_pages self.old.last (R.shown reader.now))) }
         ensures may_read { OneAtMost page_read steps.old steps.new }
         ensures tries { let rows = own_rows self.old.last (R.shown reader.now) in let pages = own_pages self.old.last (R.shown reader.now) in Tries steps.old steps.new (work self.old.last rows pages) (work self.new.last rows pages) }
         ensures falls { let rows = own_rows self.old.last (R.shown reader.now) in let pages = own_pages self.old.last (R.shown reader.now) in IfOk result (λ s. Falls s steps.old steps.new (work self.old.last rows pages) (work self.new.last rows pages)) }

@@ -8,8 +8,8 @@ ghost use Rattle.rv_node.specs.Trees.{differs, placed, up_to};
 ghost use Rattle.rv_index.specs.Steps.{behind_child, is_ahead, passed_first};
 
 use rv_node::Node;
-use rv_reader::{count_not_after, count_passed};
-use rv_value::{IndexEntry, NoMemory, Range, Side, cmp_entry, copy_slice};
+use rv_reader::{count_not_after, count_passed, is_before};
+use rv_value::{IndexEntry, NoMemory, Range, cmp_entry, copy_slice};
 use std::alloc::Global;
 use std::cmp::Ordering;
 
@@ -25,8 +25,8 @@ fn ahead(from: Option<&IndexEntry>, range: &Range, entry: &IndexEntry) -> bool
     ensures { result ≡ is_ahead range.now (option_copied from.entry) entry.now }
 {
     match from {
-        None => range.place(&entry.key) == Side::Before,
-        Some(start) => is_less(entry, start) || range.place(&entry.key) == Side::Before,
+        None => is_before(entry, range),
+        Some(start) => is_less(entry, start) || is_before(entry, range),
     }
 }
 

@@ -21,6 +21,7 @@ use Rattle.rv_access.specs.declared.access.Access.{Access}
 use Rattle.rv_access.specs.declared.access.Access.TheVariants.{Competing, Racing, Uniting}
 use Rattle.rv_access.specs.Accesses.{SamePlans, Settled, effort, fetches_left, query_of, trace_of}
 use Rattle.rv_access.proofs.Lives.{lives_less}
+use Rattle.rv_access.specs.Given.{TakesLeaf}
 use Rattle.rv_access.specs.Opened.{Begins, IsShort, Opened, OpenedBy, is_table, life_of, lives, races, unites}
 use Rattle.rv_access.specs.Stepping.{MayReadIts, OnlyTakes, SameCourse, SettledTake, StepsAs}
 use Rattle.rv_access.proofs.Accesses.{course_plans, plans_stay, steps_plans}
@@ -261,8 +262,9 @@ few_lost would state after shown c d before behind old mid new b e within reads 
 
 -- Takes and gives over one FROM item.
 
-pub taken_once : (shown : Shown) (c d : Counts) (old : Level) (new : Access) → Tries c d (effort old.here shown) (effort new shown) → (Settled old.here → SettledTake shown c d old.here new) → TakesOnce shown c d old (record old { here = new })
-taken_once shown c d old new tries settled = record {
+pub taken_once : (shown : Shown) (c d : Counts) (old : Level) (new : Access) → Tries c d (effort old.here shown) (effort new shown) → (Settled old.here → SettledTake shown c d old.here new) → TakesLeaf old.here new → TakesOnce shown c d old (record old { here = new })
+taken_once shown c d old new tries settled leaf = record {
+  leaf = inr leaf;
   tries = held_tries c d (effort new shown) (effort old.here shown) old.row old.row refl tries;
   settled = λ s. ((settled s).settled, (settled s).unread, (settled s).same);
 }
@@ -275,7 +277,7 @@ pub none_above : {X : Type 0} (i : ℕ) (ls : List Level) → i < length ls → 
 none_above i ls le none = let e = ap length none in absurd (omega (arith, le, e))
 
 pub still_once : (shown : Shown) (c : Counts) (l : Level) → TakesOnce shown c c l l
-still_once shown c l = record { tries = record { once = omega arith; less = omega arith }; settled = λ s. (s, refl, refl) }
+still_once shown c l = record { leaf = inl refl; tries = record { once = omega arith; less = omega arith }; settled = λ s. (s, refl, refl) }
 
 pub given_less : {E : Type 0} (r : Result Given E) (shown : Shown) (old : Level) (new : Access) → IfOk r (λ g. GiveSpends g (effort old.here shown) (effort new shown)) → IfOk r (λ g. GiveSpends g (level_effort shown old) (level_effort shown (record old { here = new })))
 given_less (Ok Accepted) shown old new less = let l = less in omega (arith, l)

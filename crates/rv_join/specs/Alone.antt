@@ -15,6 +15,7 @@ use Rattle.rv_final.specs.Work.{Tries}
 use Rattle.rv_retrieval.specs.Short.{OnlyLeaves}
 use Rattle.rv_access.specs.declared.access.Access.{Access}
 use Rattle.rv_access.specs.Accesses.{Settled, effort, fetches_left}
+use Rattle.rv_access.specs.Given.{TakesLeaf}
 use Rattle.rv_access.specs.Opened.{lives}
 use Rattle.rv_access.specs.Stepping.{MayReadIts, OnlyTakes, SameCourse, StepsAs}
 use Rattle.rv_join.specs.declared.level.Caught.{Caught}
@@ -148,8 +149,9 @@ pub record FewFetches (wanting : ℕ) (shown : Shown) (old new : Planned) : Type
   pub settled : Settled old.stack.at.here → Settled new.stack.at.here
   pub few : Settled old.stack.at.here → plan_fetches shown new ≤ plan_fetches shown old + wanting
 
--- WHAT A TAKE DOES TO THE ONE RETRIEVAL
+-- WHAT A TAKE DOES TO THE ONE RETRIEVAL: the leaf that it read may be held, or all is as it was
 pub record TakesOnce (shown : Shown) (c d : Counts) (old new : Level) : Type 0 where
+  pub leaf : (new.here ≡ old.here) ⊎ TakesLeaf old.here new.here
   pub tries : Tries c d (level_effort shown old) (level_effort shown new)
   pub settled : Settled old.here → Settled new.here × (d ≡ c)
       × (fetches_left new.here shown ≡ fetches_left old.here shown)

@@ -1,11 +1,11 @@
-//! A core taken apart, as threads take turns on it.
+//! A core as threads take turns on it.
 ghost use Rattle.std.specs.Prelude.{◌≡◌, ◌≤◌, All, IfOk, OnErr, length};
 ghost use Rattle.rv_core.specs.Core.{IsSound};
 ghost use Rattle.rv_shared.specs.Leads.{Leads};
 ghost use Rattle.rv_phases.specs.Phase.{PhaseDone};
 ghost use Rattle.rv_lending.specs.Lending.{CoreEvent, point};
 
-use rv_core::{Core, Engine, PartOf, Settings};
+use rv_core::{Core, PartOf};
 use rv_jscan::{Given, Sieved, Taken};
 use rv_judge::{Judge, Steps, Uncounted};
 use rv_lang::Reply;
@@ -16,50 +16,47 @@ use rv_script::Line;
 use rv_shared::{Gate, Served};
 use rv_value::NoMemory;
 use std::alloc::Global;
+use std::marker::PhantomData;
 use std::sync::Wait;
 use std::thread::Threads;
 
-/// A core that is lent to threads: its parts. The judge's box is a field of this type, so that its meaning can be named.
+/// A core that is lent to threads. `judged` holds nothing: with the box in a field of this type the judge of the core can be
+/// named.
 #[derive(Drop)]
 pub struct Lent<S: Store + Reader<Ledger = Uncounted> + Drop> {
-    engine: Engine<S>,
-    judge: Box<dyn Judge>,
-    settings: Settings,
+    core: Core<S>,
+    judged: PhantomData<Box<dyn Judge>>,
 }
 
 impl<S: Store + Reader<Ledger = Uncounted> + Drop> Served for Lent<S> {
     ghost use Rattle.rv_lending.specs.Lending.{CalledOn, GivenOn, PartOn, SweptOn, TakenOn, point, shared};
 
-    ghost shown = { λ l. shared l.engine };
+    ghost shown = { λ l. shared l.core.engine };
 
-    ghost calls = { λ old session text result new. CalledOn (λ s. S.shown s) (point old.engine ((Judge-box old.judge).would old.judge.value) ((Judge-box old.judge).state old.judge.value) old.settings) session text result (point new.engine ((Judge-box new.judge).would new.judge.value) ((Judge-box new.judge).state new.judge.value) new.settings) };
+    ghost calls = { λ old session text result new. CalledOn (λ s. S.shown s) (point old.core.engine ((Judge-box old.core.judge).would old.core.judge.value) ((Judge-box old.core.judge).state old.core.judge.value) old.core.settings) session text result (point new.core.engine ((Judge-box new.core.judge).would new.core.judge.value) ((Judge-box new.core.judge).state new.core.judge.value) new.core.settings) };
 
-    ghost parts = { λ old session text result new. PartOn (λ s. S.shown s) (point old.engine ((Judge-box old.judge).would old.judge.value) ((Judge-box old.judge).state old.judge.value) old.settings) session text result (point new.engine ((Judge-box new.judge).would new.judge.value) ((Judge-box new.judge).state new.judge.value) new.settings) };
+    ghost parts = { λ old session text result new. PartOn (λ s. S.shown s) (point old.core.engine ((Judge-box old.core.judge).would old.core.judge.value) ((Judge-box old.core.judge).state old.core.judge.value) old.core.settings) session text result (point new.core.engine ((Judge-box new.core.judge).would new.core.judge.value) ((Judge-box new.core.judge).state new.core.judge.value) new.core.settings) };
 
-    ghost takes = { λ old after result new. TakenOn (λ s. S.shown s) (point old.engine ((Judge-box old.judge).would old.judge.value) ((Judge-box old.judge).state old.judge.value) old.settings) after result (point new.engine ((Judge-box new.judge).would new.judge.value) ((Judge-box new.judge).state new.judge.value) new.settings) };
+    ghost takes = { λ old after result new. TakenOn (λ s. S.shown s) (point old.core.engine ((Judge-box old.core.judge).would old.core.judge.value) ((Judge-box old.core.judge).state old.core.judge.value) old.core.settings) after result (point new.core.engine ((Judge-box new.core.judge).would new.core.judge.value) ((Judge-box new.core.judge).state new.core.judge.value) new.core.settings) };
 
-    ghost gives = { λ old piece result new. GivenOn (point old.engine ((Judge-box old.judge).would old.judge.value) ((Judge-box old.judge).state old.judge.value) old.settings) piece result (point new.engine ((Judge-box new.judge).would new.judge.value) ((Judge-box new.judge).state new.judge.value) new.settings) };
+    ghost gives = { λ old piece result new. GivenOn (point old.core.engine ((Judge-box old.core.judge).would old.core.judge.value) ((Judge-box old.core.judge).state old.core.judge.value) old.core.settings) piece result (point new.core.engine ((Judge-box new.core.judge).would new.core.judge.value) ((Judge-box new.core.judge).state new.core.judge.value) new.core.settings) };
 
-    ghost sweeps = { λ old new. SweptOn (λ s. S.shown s) (point old.engine ((Judge-box old.judge).would old.judge.value) ((Judge-box old.judge).state old.judge.value) old.settings) (point new.engine ((Judge-box new.judge).would new.judge.value) ((Judge-box new.judge).state new.judge.value) new.settings) };
+    ghost sweeps = { λ old new. SweptOn (λ s. S.shown s) (point old.core.engine ((Judge-box old.core.judge).would old.core.judge.value) ((Judge-box old.core.judge).state old.core.judge.value) old.core.settings) (point new.core.engine ((Judge-box new.core.judge).would new.core.judge.value) ((Judge-box new.core.judge).state new.core.judge.value) new.core.settings) };
 
     fn history(&self) -> &[Entry] {
-        self.engine.history()
+        self.core.history()
     }
 
     fn open_cursors(&self) -> u32 {
-        self.engine.open_cursors()
+        self.core.open_cursors()
     }
 
     fn call(&mut self, session: u8, text: &str) -> Result<Reply, NoMemory> {
-        self.engine
-            .call(session, text, &mut self.judge, self.settings)
+        self.core.call(session, text)
     }
 
     fn call_step(&mut self, session: u8, text: &str) -> Result<Option<Reply>, NoMemory> {
-        match self
-            .engine
-            .call_step(session, text, &mut self.judge, self.settings)
-        {
+        match self.core.call_step(session, text) {
             Ok(PartOf::Answered(reply)) => Ok(Some(reply)),
             Ok(PartOf::Working) => Ok(None),
             Err(NoMemory) => Err(NoMemory),
@@ -68,49 +65,39 @@ impl<S: Store + Reader<Ledger = Uncounted> + Drop> Served for Lent<S> {
 
     fn take_piece(&mut self, after: u64) -> Result<Taken, NoMemory> {
         let mut steps = Steps::new(Uncounted);
-        self.engine.take_piece(after, &mut steps)
+        self.core.take_piece(after, &mut steps)
     }
 
     fn give_piece(&mut self, sieved: Sieved) -> Result<Given, NoMemory> {
         let mut steps = Steps::new(Uncounted);
-        self.engine.give_piece(sieved, &mut self.judge, &mut steps)
+        self.core.give_piece(sieved, &mut steps)
     }
 
     fn sweep_step(&mut self) {
-        self.engine.sweep_step();
+        self.core.sweep_step();
     }
 }
 
-/// Takes a core apart for threads.
+/// Lends a core to threads.
 pub fn lend<S: Store + Reader<Ledger = Uncounted> + Drop>(core: Core<S>) -> Lent<S>
     requires { 0 ≤ core.engine.phase }
-    ensures engine { result.engine ≡ core.engine }
-    ensures judge { result.judge ≡ core.judge }
-    ensures settings { result.settings ≡ core.settings }
+    ensures core { result.core ≡ core }
 {
-    let (engine, judge, settings) = core.into_parts();
     Lent {
-        engine,
-        judge,
-        settings,
+        core,
+        judged: PhantomData,
     }
 }
 
-/// The core again.
+/// The core that was lent.
 pub fn give_back<S: Store + Reader<Ledger = Uncounted> + Drop>(lent: Lent<S>) -> Core<S>
-    requires { 0 ≤ lent.engine.phase }
-    ensures engine { result.engine ≡ lent.engine }
-    ensures judge { result.judge ≡ lent.judge }
-    ensures settings { result.settings ≡ lent.settings }
+    requires { 0 ≤ lent.core.engine.phase }
+    ensures core { result ≡ lent.core }
     ensures sound { IsSound result.engine }
 {
-    let Lent {
-        engine,
-        judge,
-        settings,
-    } = lent;
-    let _sound = engine.history();
-    Core::of_parts(engine, judge, settings)
+    let Lent { core, judged: _ } = lent;
+    let _sound = core.history();
+    core
 }
 
 /// Makes the calls of a phase over a lent core: each session's in their order, in a thread of its own, with so many workers
@@ -125,11 +112,11 @@ pub fn call_phase<
     requires workers { workers ≤ 8 }
     requires lines { length lines.now ≤ 200000 }
     requires short { All (λ l. length l.text ≤ 4096) lines.now }
-    ensures done { PhaseDone lines.now result.short lent.engine.phase lent.engine.history result.core.engine.history }
-    ensures chain { Leads (CoreEvent (λ s. S.shown s)) (point lent.engine (would lent.judge) (state lent.judge) lent.settings) (point result.core.engine (would result.core.judge) (state result.core.judge) result.core.settings) }
-    ensures phase { result.core.engine.phase ≡ lent.engine.phase }
-    ensures rules { would result.core.judge ≡ would lent.judge }
-    ensures settings { result.core.settings ≡ lent.settings }
+    ensures done { PhaseDone lines.now result.short lent.core.engine.phase lent.core.engine.history result.core.core.engine.history }
+    ensures chain { Leads (CoreEvent (λ s. S.shown s)) (point lent.core.engine (would lent.core.judge) (state lent.core.judge) lent.core.settings) (point result.core.core.engine (would result.core.core.judge) (state result.core.core.judge) result.core.core.settings) }
+    ensures phase { result.core.core.engine.phase ≡ lent.core.engine.phase }
+    ensures rules { would result.core.core.judge ≡ would lent.core.judge }
+    ensures settings { result.core.core.settings ≡ lent.core.settings }
 {
     run_phase(rt, alloc, lent, lines, workers, gate)
 }

@@ -2,28 +2,17 @@
 ghost use Rattle.std.specs.Prelude.{◌≡◌, ◌<◌, ◌≤◌, drop, length, true};
 ghost use Rattle.rv_reader.specs.Entries.{AreLong, Ascend};
 ghost use Rattle.rv_reader.specs.Halves.{is_before};
-ghost use Rattle.rv_reader.specs.Leaves.{before_side};
 ghost use Rattle.rv_node.specs.Children.{first_child, last_child, last_place};
 
-use rv_reader::{count_before, count_not_after};
-use rv_value::{IndexEntry, Range, Side};
-
-/// Whether a place is the one before a range.
-fn lies_before(side: Side) -> bool
-    ensures { result ≡ before_side side }
-{
-    match side {
-        Side::Before => true,
-        Side::In | Side::After => false,
-    }
-}
+use rv_reader::{count_before, count_not_after, is_before};
+use rv_value::{IndexEntry, Range};
 
 /// Whether the last of some entries is before a range.
 fn ends_before(entries: &[IndexEntry], range: &Range) -> bool
     ensures { result ≡ true → last_place (is_before range.now) 1 0 entries.now ≡ length entries.now }
 {
     match entries.last() {
-        Some(last) => lies_before(range.place(&last.key)),
+        Some(last) => is_before(last, range),
         None => false,
     }
 }

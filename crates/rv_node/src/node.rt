@@ -3,7 +3,7 @@ ghost use Rattle.rv_node.specs.Children.{first_child, last_child};
 ghost use Rattle.rv_node.specs.Nodes.{empty_node, AreParts, IsNode};
 
 use crate::children::{last_before, last_not_after};
-use rv_value::{Duplicate, IndexEntry, Items, NoMemory, Range};
+use rv_value::{Duplicate, IndexEntry, Items, NoMemory, Range, copy_with_room};
 use std::alloc::Global;
 use std::marker::Model;
 
@@ -99,10 +99,11 @@ impl Node {
 }
 
 impl Duplicate for Node {
+    /// The same node, with room for one entry more: it is copied where a commit changes it.
     fn copy(&self, alloc: Global) -> Result<Node, NoMemory> {
         Ok(Node {
             level: self.level,
-            entries: self.entries.copy(alloc)?,
+            entries: Items::from_vec(copy_with_room(alloc, self.entries.as_slice(), 1)?),
             children: self.children.copy(alloc)?,
         })
     }

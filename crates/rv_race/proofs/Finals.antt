@@ -1,6 +1,7 @@
 -- The final stage of a race.
-use Rattle.std.proofs.Common.{◌≡◌, ℕ, List, [], true, false, refl, ap, sym, ◌∙◌, subst, None}
+use Rattle.std.proofs.Common.{◌≡◌, ℕ, ◌≤◌, List, [], length, true, false, refl, ap, sym, ◌∙◌, subst, Option, Some, None, IfSome}
 use Rattle.rv_value.proofs.Tests.{no_way}
+use Rattle.rv_value.specs.declared.record.IndexEntry.{IndexEntry}
 use Rattle.rv_judge.specs.declared.counting.Counts.{Counts}
 use Rattle.rv_judge.specs.declared.events.Control.{Control}
 use Rattle.rv_judge.specs.declared.events.Control.TheVariants.{BackgroundAlone, FinalList, FinalTable, Done}
@@ -8,20 +9,25 @@ use Rattle.rv_judge.specs.declared.events.Happening.TheVariants.{FinalEnded}
 use Rattle.rv_judge.specs.declared.events.Strategy.TheVariants.{BackgroundOnly}
 use Rattle.rv_judge.specs.declared.judging.Facts.{Facts}
 use Rattle.rv_judge.specs.Verdicts.{Ruling}
+use Rattle.rv_reader.specs.declared.reader.Chunk.{Chunk}
 use Rattle.rv_reader.specs.Shown.{Shown}
-use Rattle.rv_scan.specs.Places.{PageReads}
+use Rattle.rv_scan.specs.Places.{PageReads, PageTurns}
 use Rattle.rv_scan.specs.declared.skip.Scanned.{Scanned}
 use Rattle.rv_scan.specs.declared.skip.Scanned.TheVariants.{Working, End}
 use Rattle.rv_jscan.specs.declared.jscan.Given.{Given}
 use Rattle.rv_jscan.specs.declared.jscan.Given.TheVariants.{Accepted}
+use Rattle.rv_jscan.specs.declared.jscan.ScanPlan.{ScanPlan}
+use Rattle.rv_jscan.specs.Lanes.{IsLeafAt}
 use Rattle.rv_jscan.specs.Pieces.{Pieced}
+use Rattle.rv_jscan.specs.Steps.{HasEntries}
 use Rattle.rv_final.specs.Rest.{StepMarks, rest_by}
 use Rattle.rv_final.specs.Stage.{FetchesKey, LastFits, PassesKeys, Staged, first_key, list_left, table_left}
+use Rattle.rv_final.specs.Work.{Falls}
 use Rattle.rv_final.proofs.Endings.{IsFinal, final_done, steps_by, told_as}
 use Rattle.rv_final.proofs.Givings.{was_accepted}
 use Rattle.rv_final.proofs.Rests.{no_rest, same_rest}
 use Rattle.rv_race.specs.Effort.{effort, keys_work, table_work}
-use Rattle.rv_race.specs.Given.{Answers, Awaits, TakesLeaf, piece_read}
+use Rattle.rv_race.specs.Given.{Answers, Awaits, TakesLeaf, piece_read, turn_lane, turn_plan}
 use Rattle.rv_race.specs.Opened.{Does, DoesAs, DoesStep, Steady, ended_by}
 use Rattle.rv_race.specs.Raced.{RaceFits, Raced, left_by, racing, rest, rows_of}
 use Rattle.rv_race.specs.Rulings.{GivesOn, gone}
@@ -117,11 +123,11 @@ ended_effort mid new shown at e = ap (λ (x : Raced). effort x shown) e ∙ effo
 
 -- WHAT A STEP DOES
 
-pub list_does : (rules : ℕ → Facts → Ruling) (stands : ℕ) (r new : Raced) (shown : Shown) (c d : Counts) (s : Scanned) → r.control ≡ FinalList → FetchesKey (first_key r.list None r.at) r.only (rows_of r shown) c d s → new ≡ ended_by s (record r { at = new.at }) → Does rules stands stands shown c d s r new
-list_does rules stands r new shown c d s e fetches n = subst (λ (x : Control). DoesAs x rules stands stands shown c d s r new) (sym e) (refl, fetches, n)
+pub list_does : (rules : ℕ → Facts → Ruling) (stands : ℕ) (r new : Raced) (shown : Shown) (c d : Counts) (s : Scanned) → r.control ≡ FinalList → FetchesKey (first_key r.list None r.at) r.only (rows_of r shown) c d s → new ≡ ended_by s (record r { at = new.at }) → Falls s c d (keys_work r) (keys_work new) → Does rules stands stands shown c d s r new
+list_does rules stands r new shown c d s e fetches n falls = subst (λ (x : Control). DoesAs x rules stands stands shown c d s r new) (sym e) (refl, fetches, n, falls)
 
-pub table_does : (rules : ℕ → Facts → Ruling) (stands : ℕ) (r new : Raced) (shown : Shown) (c d : Counts) (s : Scanned) → r.control ≡ FinalTable → PageReads s c d → new ≡ ended_by s (record r { last = new.last }) → Does rules stands stands shown c d s r new
-table_does rules stands r new shown c d s e reads n = subst (λ (x : Control). DoesAs x rules stands stands shown c d s r new) (sym e) (refl, reads, n)
+pub table_does : (rules : ℕ → Facts → Ruling) (stands : ℕ) (r new : Raced) (shown : Shown) (c d : Counts) (s : Scanned) → r.control ≡ FinalTable → PageReads s c d → new ≡ ended_by s (record r { last = new.last }) → PageTurns s r.last new.last (shown.pages r.table r.snap) → Does rules stands stands shown c d s r new
+table_does rules stands r new shown c d s e reads n turns = subst (λ (x : Control). DoesAs x rules stands stands shown c d s r new) (sym e) (refl, reads, n, turns)
 
 pub ends_done : (mid new : Raced) → IsFinal mid.control → new ≡ gone FinalEnded mid → new.control ≡ Done
 ends_done mid new at e = ap (λ (x : Raced). x.control) e ∙ final_done BackgroundOnly mid.control at
@@ -130,8 +136,14 @@ ends_done mid new at e = ap (λ (x : Raced). x.control) e ∙ final_done Backgro
 pub accepted_piece : (would : ℕ → Facts → Ruling) (state after : ℕ) (mid new : Raced) (piece sieved : Pieced) (g : Given) → Awaits mid piece → sieved ≡ piece → Answers mid sieved g new → GivesOn would state after sieved g mid new → Awaits mid sieved × GivesOn would state after sieved Accepted mid new
 accepted_piece would state after mid new piece sieved g a s answers o = was_accepted (λ g. Answers mid sieved g new) (λ g. GivesOn would state after sieved g mid new) g (λ asked now stale. stale.0 (subst (Awaits mid) (sym s) a)) answers o
 
+-- a piece that was taken is a leaf
+leaf_short : (plan : ScanPlan) (shown : Shown) (snap : ℕ) (place : Option IndexEntry) (held : Option Chunk) (entries : List IndexEntry) → HasEntries held entries → IfSome held (IsLeafAt plan shown snap place) → length entries ≤ 48
+leaf_short plan shown snap place None entries has drawn = absurd has
+leaf_short plan shown snap place (Some chunk) entries has drawn = subst (λ (es : List IndexEntry). length es ≤ 48) has drawn.short
+
 -- one piece
-pub one_piece : (would : ℕ → Facts → Ruling) (state after : ℕ) (old mid new : Raced) (shown : Shown) (piece sieved : Pieced) (g : Given) (c d : Counts) → old.control ≡ BackgroundAlone → TakesLeaf old mid → Awaits mid piece → sieved ≡ piece → Answers mid sieved g new → GivesOn would state after sieved g mid new → d ≡ piece_read old c → Does would state after shown c d Working old new
-one_piece would state after old mid new shown piece sieved g c d e leaves a s answers o reads =
+pub one_piece : (would : ℕ → Facts → Ruling) (state after : ℕ) (old mid new : Raced) (shown : Shown) (piece sieved : Pieced) (g : Given) (c d : Counts) → old.control ≡ BackgroundAlone → TakesLeaf old mid → Awaits mid piece → sieved ≡ piece → Answers mid sieved g new → GivesOn would state after sieved g mid new → d ≡ piece_read old c → RaceFits mid shown → Does would state after shown c d Working old new
+one_piece would state after old mid new shown piece sieved g c d e leaves a s answers o reads fits =
     let was = accepted_piece would state after mid new piece sieved g a s answers o in
-    subst (λ (x : Control). DoesAs x would state after shown c d Working old new) (sym e) (refl, record { taken = mid; piece = sieved; leaves = leaves; awaits = was.0; obeys = was.1 }, reads)
+    let few = leaf_short (turn_plan mid) shown mid.snap (turn_lane mid).place (turn_lane mid).held sieved.entries was.0.own.entries fits.running.turn.lane.drawn in
+    subst (λ (x : Control). DoesAs x would state after shown c d Working old new) (sym e) (refl, record { taken = mid; piece = sieved; leaves = leaves; awaits = was.0; obeys = was.1; short = few }, reads)

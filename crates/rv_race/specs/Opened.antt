@@ -17,7 +17,7 @@ use Rattle.rv_judge.specs.Verdicts.{Ruling}
 use Rattle.rv_restrict.specs.declared.atom.Atom.{Atom}
 use Rattle.rv_reader.specs.Shown.{Shown, CanRead}
 use Rattle.rv_scan.specs.Due.{HaveColumns}
-use Rattle.rv_scan.specs.Places.{Fits as PlaceFits, PageReads, Place, work}
+use Rattle.rv_scan.specs.Places.{Fits as PlaceFits, PageReads, PageTurns, Place, work}
 use Rattle.rv_scan.specs.Reads.{OneAtMost}
 use Rattle.rv_scan.specs.declared.skip.Scanned.{Scanned}
 use Rattle.rv_scan.specs.declared.skip.Scanned.TheVariants.{Found, Working, End}
@@ -28,6 +28,7 @@ use Rattle.rv_jscan.specs.Pieces.{Pieced}
 use Rattle.rv_jscan.specs.Steps.{eight}
 use Rattle.rv_final.specs.Rest.{Steps, qualifies_at}
 use Rattle.rv_final.specs.Stage.{FetchesKey, Unbegun, first_key}
+use Rattle.rv_final.specs.Work.{Falls}
 use Rattle.rv_race.specs.Effort.{keys_work}
 use Rattle.rv_race.specs.Given.{Awaits, TakesLeaf, counts_read, holding, piece_read, turn_lane}
 use Rattle.rv_race.specs.Raced.{PlansFit, RaceFits, Raced, SameRace, rest, rows_of}
@@ -101,16 +102,18 @@ ended_by (Found record_found) r = r
 ended_by Working r = r
 ended_by End r = gone FinalEnded r
 
--- the awaited piece is taken, sieved and given
+-- the awaited piece, which is a leaf and so has at most 48 entries, is taken, sieved and given
 pub record OnePiece (would : ℕ → Facts → Ruling) (state after : ℕ) (old new : Raced) : Type 0 where
   pub taken : Raced
   pub piece : Pieced
   pub leaves : TakesLeaf old taken
   pub awaits : Awaits taken piece
   pub obeys : GivesOn would state after piece Accepted taken new
+  pub short : length piece.entries ≤ 48
 
 -- WHAT A STEP DOES AND READS, by the control: one piece, upon which the judge is asked and obeyed as by a give; the
--- fetch of the next key of the complete list; a step through the table; or nothing
+-- fetch of the next key of the complete list, which is then behind it; a step through the table, where a page that is
+-- read was there and is then behind it; or nothing
 abbrev pub DoesAs : Control → (ℕ → Facts → Ruling) → ℕ → ℕ → Shown → Counts → Counts → Scanned → Raced → Raced → Type 0
 DoesAs Building would state after shown c d s old new = ⊥
 DoesAs ForegroundAlone would state after shown c d s old new = ⊥
@@ -118,9 +121,10 @@ DoesAs BackgroundAlone would state after shown c d s old new =
     (s ≡ Working) × OnePiece would state after old new × (d ≡ piece_read old c)
 DoesAs FinalList would state after shown c d s old new =
     (after ≡ state) × FetchesKey (first_key old.list None old.at) old.only (rows_of old shown) c d s
-    × (new ≡ ended_by s (record old { at = new.at }))
+    × (new ≡ ended_by s (record old { at = new.at })) × Falls s c d (keys_work old) (keys_work new)
 DoesAs FinalTable would state after shown c d s old new =
     (after ≡ state) × PageReads s c d × (new ≡ ended_by s (record old { last = new.last }))
+    × PageTurns s old.last new.last (shown.pages old.table old.snap)
 DoesAs Done would state after shown c d s old new = (after ≡ state) × (s ≡ End) × (d ≡ c) × (new ≡ old)
 
 abbrev pub Does : (ℕ → Facts → Ruling) → ℕ → ℕ → Shown → Counts → Counts → Scanned → Raced → Raced → Type 0

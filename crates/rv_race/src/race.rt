@@ -5,7 +5,7 @@ ghost use Rattle.rv_judge.specs.Counting.{one_more, page_read, record_read};
 ghost use Rattle.rv_judge.specs.Runs.{Allowed};
 ghost use Rattle.rv_judge.specs.Tracing.{counted, noted};
 ghost use Rattle.rv_judge.specs.declared.events.Event.{Event as TheEvent};
-ghost use Rattle.rv_scan.specs.Places.{PageReads};
+ghost use Rattle.rv_scan.specs.Places.{PageReads, PageTurns};
 ghost use Rattle.rv_scan.specs.Reads.{OneAtMost};
 ghost use Rattle.rv_jscan.specs.Joint.{CanMake, counts_at, plan_at};
 ghost use Rattle.rv_jscan.specs.Lanes.{IsOwn, LaneFits, leaf_once, passed};
@@ -573,6 +573,7 @@ impl Race {
         ensures err { OnErr result (self.new ≡ self.old) }
         ensures may_read { OneAtMost page_read steps.old steps.new }
         ensures reads { IfOk result (λ s. PageReads s steps.old steps.new) }
+        ensures turns { IfOk result (λ s. PageTurns s self.old.last self.new.last ((R.shown reader.now).pages self.old.table self.old.snap)) }
         ensures tries { Tries steps.old steps.new (table_work self.old (R.shown reader.now)) (table_work self.new (R.shown reader.now)) }
         ensures falls { IfOk result (λ s. Falls s steps.old steps.new (table_work self.old (R.shown reader.now)) (table_work self.new (R.shown reader.now))) }
     {

@@ -2,6 +2,7 @@
 ghost use Rattle.std.specs.Prelude.{◌≡◌, ◌≤◌, length, map, IfOk};
 ghost use Rattle.std.specs.Option.{option_copied};
 ghost use Rattle.rv_reader.specs.Entries.{column_of, entry_at, entry_of};
+ghost use Rattle.rv_reader.specs.Halves.{is_before};
 ghost use Rattle.rv_reader.specs.Leaves.{is_passed, within};
 
 use rv_value::{
@@ -76,12 +77,20 @@ pub fn entry_at(
     Ok(Some(entry))
 }
 
+/// Whether an entry is before a range. The range's high bound is not looked at.
+#[tactic(auto, using(crate::proofs::Sides::under_before))]
+pub fn is_before(entry: &IndexEntry, range: &Range) -> bool
+    ensures { result ≡ is_before range.now entry.now }
+{
+    range.is_after(&entry.key)
+}
+
 /// Whether a cut is not behind the leaf in which a reading of a range begins, from an entry or from the range's front.
 pub fn is_passed(from: Option<&IndexEntry>, range: &Range, cut: &IndexEntry) -> bool
     ensures { result ≡ is_passed (option_copied from.entry) range.now cut.now }
 {
     match from {
-        None => range.place(&cut.key) == Side::Before,
+        None => is_before(cut, range),
         Some(start) => cmp_entry(start, cut) != Ordering::Less,
     }
 }

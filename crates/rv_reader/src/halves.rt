@@ -5,7 +5,7 @@ ghost use Rattle.rv_reader.specs.Entries.{AreLong, Ascend, run};
 ghost use Rattle.rv_reader.specs.Halves.{PassesTo, is_before, is_not_after};
 ghost use Rattle.rv_reader.specs.Leaves.{is_passed};
 
-use crate::entries::is_passed;
+use crate::entries::{is_before, is_passed};
 use rv_value::{IndexEntry, Range, Side};
 
 /// How many of ascending entries are before a range.
@@ -15,7 +15,7 @@ pub fn count_before(entries: &[IndexEntry], range: &Range) -> usize
     ensures bound { result ≤ length entries.now }
     ensures passes { PassesTo (is_before range.now) result entries.now }
 {
-    entries.partition_point(|entry| range.place(&entry.key) == Side::Before)
+    entries.partition_point(|entry| is_before(entry, range))
 }
 
 /// How many of ascending entries are not after a range.

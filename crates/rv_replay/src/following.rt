@@ -21,8 +21,8 @@ pub enum Replayed {
 }
 
 /// Whether entries, whose texts have at most 4,096 bytes each, are a legal history of the one-thread database: each reply
-/// is one that it may give where the entries before have been made. It costs what a run of the calls costs in which each
-/// OPEN looks at every choice of one row for each FROM item.
+/// is one that it may give where the entries before have been made. It costs what a run of the calls costs in which no OPEN
+/// has an index: the rows of a FROM item are gone through once for each choice of the items before.
 pub fn replay(alloc: Global, entries: &[Entry]) -> Result<Replayed, NoMemory>
     requires { All (λ e. length e.text ≤ 4096) entries.now }
     ensures { IfOk result (Tells entries.now) }

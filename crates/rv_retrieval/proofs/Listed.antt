@@ -164,3 +164,13 @@ list_falls v mid new s shown c d was is n f = falls_to s c d (keys_work v) (keys
 
 pub list_records : (v mid new : Shape) (s : Scanned) (shown : Shown) (c d : Counts) → v.control ≡ FinalList → mid.control ≡ FinalList → new ≡ ended_by FinalEnded s mid → d.records + keys_work mid ≤ c.records + keys_work v → d.records + fetches_left new shown ≤ c.records + fetches_left v shown
 list_records v mid new s shown c d was is n less = records_to c.records d.records (keys_work v) (keys_work mid) (fetches_left v shown) (fetches_left new shown) (list_fetches v shown was) (fetches_most mid new s shown is n) less
+
+-- a key that is fetched is behind
+
+ended_keys : (s : Scanned) (v : Shape) → keys_work (ended_by FinalEnded s v) ≡ keys_work v
+ended_keys (Found r) v = refl
+ended_keys Working v = refl
+ended_keys End v = refl
+
+pub list_keys : (v mid new : Shape) (s : Scanned) (c d : Counts) → new ≡ ended_by FinalEnded s mid → Falls s c d (keys_work v) (keys_work mid) → Falls s c d (keys_work v) (keys_work new)
+list_keys v mid new s c d n falls = subst (λ (k : ℕ). Falls s c d (keys_work v) k) (sym (ap keys_work n ∙ ended_keys s mid)) falls

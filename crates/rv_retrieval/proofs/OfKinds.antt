@@ -9,7 +9,10 @@ use Rattle.rv_judge.specs.declared.events.Strategy.TheVariants.{Sorted, IndexOnl
 use Rattle.rv_judge.specs.declared.judging.Facts.{Facts}
 use Rattle.rv_judge.specs.Verdicts.{Ruling}
 use Rattle.rv_reader.specs.Shown.{Shown}
+use Rattle.rv_scan.specs.Places.{PageTurns}
 use Rattle.rv_scan.specs.declared.skip.Scanned.{Scanned}
+use Rattle.rv_final.specs.Work.{Falls}
+use Rattle.rv_retrieval.specs.Effort.{keys_work}
 use Rattle.rv_retrieval.specs.Accounts.{fresh_of}
 use Rattle.rv_retrieval.specs.Runs.{SameCourse}
 use Rattle.rv_retrieval.specs.Shape.{Shape, rest}
@@ -53,13 +56,13 @@ both_does (Ok s) would state shown c d old new e does = subst (λ (x : Kind). Do
 both_does (Err x) would state shown c d old new e does = tt
 
 -- the fetch of a key of the complete list
-pub key_does : (would : ℕ → Facts → Ruling) (state : ℕ) (shown : Shown) (c d : Counts) (s : Scanned) (old new : Shape) → kind_of old.control old.strategy (fresh_of old) ≡ NextKey → ListReads old shown c d s → new ≡ ended_by FinalEnded s (record old { at = new.at }) → DoesIts would state state shown c d s old new
-key_does would state shown c d s old new e reads does = subst (λ (x : Kind). DoesAs x would state state shown c d s old new) (sym e) (refl, reads, does)
+pub key_does : (would : ℕ → Facts → Ruling) (state : ℕ) (shown : Shown) (c d : Counts) (s : Scanned) (old new : Shape) → kind_of old.control old.strategy (fresh_of old) ≡ NextKey → ListReads old shown c d s → new ≡ ended_by FinalEnded s (record old { at = new.at }) → Falls s c d (keys_work old) (keys_work new) → DoesIts would state state shown c d s old new
+key_does would state shown c d s old new e reads does fewer = subst (λ (x : Kind). DoesAs x would state state shown c d s old new) (sym e) (refl, reads, does, fewer)
 
 -- a step through the table
-pub page_does : {E : Type 0} (r : Result Scanned E) (would : ℕ → Facts → Ruling) (state : ℕ) (shown : Shown) (c d : Counts) (old new : Shape) → kind_of old.control old.strategy (fresh_of old) ≡ NextPage → IfOk r (λ s. new ≡ ended_by FinalEnded s (record old { last = new.last })) → IfOk r (λ s. DoesIts would state state shown c d s old new)
-page_does (Ok s) would state shown c d old new e does = subst (λ (x : Kind). DoesAs x would state state shown c d s old new) (sym e) (refl, does)
-page_does (Err x) would state shown c d old new e does = tt
+pub page_does : {E : Type 0} (r : Result Scanned E) (would : ℕ → Facts → Ruling) (state : ℕ) (shown : Shown) (c d : Counts) (old new : Shape) → kind_of old.control old.strategy (fresh_of old) ≡ NextPage → IfOk r (λ s. new ≡ ended_by FinalEnded s (record old { last = new.last })) → IfOk r (λ s. PageTurns s old.last new.last (shown.pages old.query.table old.query.snap)) → IfOk r (λ s. DoesIts would state state shown c d s old new)
+page_does (Ok s) would state shown c d old new e does turns = subst (λ (x : Kind). DoesAs x would state state shown c d s old new) (sym e) (refl, does, turns)
+page_does (Err x) would state shown c d old new e does turns = tt
 
 -- What a step leaves as it was.
 

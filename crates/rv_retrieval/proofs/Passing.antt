@@ -1,5 +1,5 @@
 -- A step before which keys of delivered rows were passed over.
-use Rattle.std.proofs.Common.{◌≡◌, ◌≤◌, ◌∙◌, ◌&&◌, ℕ, Option, None, Result, Ok, Err, IfOk, OnErr, ap, arith, refl, subst, sym, lt_of_lt_of_le, ◌<◌}
+use Rattle.std.proofs.Common.{◌≡◌, ◌≤◌, ◌∙◌, ◌&&◌, ℕ, Option, None, Result, Ok, Err, IfOk, OnErr, ap, arith, refl, subst, sym, lt_of_le_of_lt, lt_of_lt_of_le, ◌<◌}
 use Rattle.std.specs.Prelude.{if◌then◌else◌}
 use Rattle.rv_judge.specs.Course.{building, fast_first}
 use Rattle.rv_judge.specs.declared.counting.Counts.{Counts}
@@ -54,8 +54,8 @@ fast_kind v both fast =
     let fresh : fresh_of v ≡ first_fresh v = ap (λ (x : Control). if building x && fast_first v.strategy then first_fresh v else None) both ∙ ap (λ (x : Strategy). if fast_first x then first_fresh v else None) fast in
     ap (λ (x : Control). kind_of x v.strategy (fresh_of v)) both ∙ ap (λ (x : Strategy). while_both x (fresh_of v)) fast ∙ ap (while_both FastFirst) fresh
 
-pub borrow_does : {E : Type 0} (r : Result Scanned E) (would : ℕ → Facts → Ruling) (state : ℕ) (shown : Shown) (c d : Counts) (v mid new : Shape) (key : ℕ) → kind_of v.control v.strategy (fresh_of v) ≡ Borrow key → mid ≡ record v { borrowed = mid.borrowed } → IfOk r (λ s. Borrows key shown c d s mid new) → IfOk r (λ s. DoesIts would state state shown c d s v new)
-borrow_does (Ok s) would state shown c d v mid new key k e h =
+pub borrow_does : {E : Type 0} (r : Result Scanned E) (would : ℕ → Facts → Ruling) (state : ℕ) (shown : Shown) (c d : Counts) (v mid new : Shape) (key : ℕ) → kind_of v.control v.strategy (fresh_of v) ≡ Borrow key → mid ≡ record v { borrowed = mid.borrowed } → v.borrowed ≤ mid.borrowed → IfOk r (λ s. Borrows key shown c d s mid new) → IfOk r (λ s. DoesIts would state state shown c d s v new)
+borrow_does (Ok s) would state shown c d v mid new key k e on h =
     let b = subst (λ (x : Shape). Borrows key shown c d s x new) e h in
-    subst (λ (x : Kind). DoesAs x would state state shown c d s v new) (sym k) (refl, record { read = b.read; looks = b.looks; left = b.left })
-borrow_does (Err x) would state shown c d v mid new key k e h = tt
+    subst (λ (x : Kind). DoesAs x would state state shown c d s v new) (sym k) (refl, record { further = lt_of_le_of_lt on h.further; read = b.read; looks = b.looks; left = b.left })
+borrow_does (Err x) would state shown c d v mid new key k e on h = tt

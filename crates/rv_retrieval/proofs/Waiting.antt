@@ -1,5 +1,5 @@
 -- What a step leaves that found no memory.
-use Rattle.std.proofs.Common.{◌≡◌, ◌≤◌, ◌∙◌, ◌⊎◌, ℕ, Bool, true, false, not, ◌&&◌, List, Result, Ok, Err, OnErr, length, filter, drop, find, inl, inr, refl, ap, sym, subst, arith}
+use Rattle.std.proofs.Common.{◌≡◌, ◌≤◌, ◌∙◌, ◌⊎◌, ℕ, Bool, true, false, not, ◌&&◌, List, Result, Ok, Err, OnErr, length, filter, drop, find, inl, inr, refl, ap, sym, subst, arith, le_trans}
 use Rattle.std.specs.Prelude.{if◌then◌else◌, Option, None}
 use Rattle.rv_value.specs.declared.record.IndexEntry.{IndexEntry}
 use Rattle.rv_keys.specs.Keys.{has_key}
@@ -38,34 +38,39 @@ took_only old new e leaves = record {
   same = subst (λ (x : Shape). x ≡ record old { joint = x.joint; borrowed = x.borrowed; at = x.at; trace = x.trace }) (sym e) refl;
   leaves = inr leaves;
   fresh = λ way. ap fresh_of e ∙ ap (λ (l : List ℕ). if building old.control && fast_first old.strategy then find (λ (k : ℕ). not (has_key k old.delivered)) (drop old.borrowed l) else None) (lends (is_background old.control) old.joint new.joint leaves);
+  further = subst (λ (n : ℕ). old.borrowed ≤ n) (sym (ap (λ (x : Shape). x.borrowed) e)) (omega arith);
   fewer = subst (λ (n : ℕ). n ≤ keys_work old) (sym (ap keys_work e ∙ ap (λ (l : Option (List ℕ)). length (keys_left l old.at)) (lists (is_background old.control) old.joint new.joint leaves))) (omega arith);
 }
 
 only_itself : (v : Shape) → OnlyTakes v v
-only_itself v = record { same = refl; leaves = inl refl; fresh = λ way. refl; fewer = omega arith }
+only_itself v = record { same = refl; leaves = inl refl; fresh = λ way. refl; further = omega arith; fewer = omega arith }
 
 pub only_if : {X E : Type 0} (r : Result X E) (old new : Shape) → OnErr r (new ≡ old) → OnErr r (OnlyTakes old new)
 only_if (Ok x) old new e = tt
 only_if (Err x) old new e = subst (OnlyTakes old) (sym e) (only_itself old)
 
 -- keys were passed over before
-after_passed : (v mid new : Shape) → mid ≡ record v { borrowed = mid.borrowed; at = mid.at } → (under_way v.joint ≡ true → fresh_of mid ≡ fresh_of v) → keys_work mid ≤ keys_work v → OnlyTakes mid new → OnlyTakes v new
-after_passed v mid new e fresh fewer o =
+after_passed : (v mid new : Shape) → mid ≡ record v { borrowed = mid.borrowed; at = mid.at } → (under_way v.joint ≡ true → fresh_of mid ≡ fresh_of v) → v.borrowed ≤ mid.borrowed → keys_work mid ≤ keys_work v → OnlyTakes mid new → OnlyTakes v new
+after_passed v mid new e fresh on fewer o =
     let joint : mid.joint ≡ v.joint = ap (λ (x : Shape). x.joint) e in
     record {
       same = subst (λ (x : Shape). new ≡ record x { joint = new.joint; borrowed = new.borrowed; at = new.at; trace = new.trace }) e o.same;
       leaves = subst (λ (x : Shape). (new.joint ≡ x.joint) ⊎ TakesLeaf x new.joint) e o.leaves;
       fresh = λ way. o.fresh (ap under_way joint ∙ way) ∙ fresh way;
+      further = le_trans on o.further;
       fewer = let less = o.fewer in omega arith;
     }
 
-pub after_borrowed : {X E : Type 0} (r : Result X E) (v mid new : Shape) → mid ≡ record v { borrowed = mid.borrowed } → (under_way v.joint ≡ true → fresh_of mid ≡ fresh_of v) → OnErr r (OnlyTakes mid new) → OnErr r (OnlyTakes v new)
-after_borrowed (Ok x) v mid new e fresh o = tt
-after_borrowed (Err x) v mid new e fresh o = after_passed v mid new (subst (λ (x : Shape). x ≡ record v { borrowed = x.borrowed; at = x.at }) (sym e) refl) fresh (subst (λ (n : ℕ). n ≤ keys_work v) (sym (ap keys_work e)) (omega arith)) o
+pub after_borrowed : {X E : Type 0} (r : Result X E) (v mid new : Shape) → mid ≡ record v { borrowed = mid.borrowed } → (under_way v.joint ≡ true → fresh_of mid ≡ fresh_of v) → v.borrowed ≤ mid.borrowed → OnErr r (OnlyTakes mid new) → OnErr r (OnlyTakes v new)
+after_borrowed (Ok x) v mid new e fresh on o = tt
+after_borrowed (Err x) v mid new e fresh on o = after_passed v mid new (subst (λ (x : Shape). x ≡ record v { borrowed = x.borrowed; at = x.at }) (sym e) refl) fresh on (subst (λ (n : ℕ). n ≤ keys_work v) (sym (ap keys_work e)) (omega arith)) o
 
 -- keys of the complete list were passed over, and nothing else was done
 pub keys_only : (v mid : Shape) → mid ≡ record v { at = mid.at } → keys_work mid ≤ keys_work v → OnlyTakes v mid
-keys_only v mid e fewer = after_passed v mid mid (subst (λ (x : Shape). x ≡ record v { borrowed = x.borrowed; at = x.at }) (sym e) refl) (λ way. ap fresh_of e) fewer (only_itself mid)
+keys_only v mid e fewer = after_passed v mid mid (subst (λ (x : Shape). x ≡ record v { borrowed = x.borrowed; at = x.at }) (sym e) refl) (λ way. ap fresh_of e) (same_less v.borrowed mid.borrowed (ap (λ (x : Shape). x.borrowed) e)) fewer (only_itself mid)
+  where
+    same_less : (was now : ℕ) → now ≡ was → was ≤ now
+    same_less was now same = omega (arith, same)
 
 -- what was read is counted
 pub only_counted : (v mid new : Shape) (t : Trace) → new ≡ record mid { trace = t } → OnlyTakes v mid → OnlyTakes v new
@@ -73,6 +78,7 @@ only_counted v mid new t e o = record {
   same = subst (λ (x : Shape). x ≡ record v { joint = x.joint; borrowed = x.borrowed; at = x.at; trace = x.trace }) (sym e) (ap (λ (x : Shape). record x { trace = t }) o.same);
   leaves = subst (λ (j : Joint). (j ≡ v.joint) ⊎ TakesLeaf v j) (sym (ap (λ (x : Shape). x.joint) e)) o.leaves;
   fresh = λ way. ap fresh_of e ∙ o.fresh way;
+  further = subst (λ (n : ℕ). v.borrowed ≤ n) (sym (ap (λ (x : Shape). x.borrowed) e)) o.further;
   fewer = subst (λ (n : ℕ). n ≤ keys_work v) (sym (ap keys_work e)) o.fewer;
 }
 

@@ -1,5 +1,5 @@
 -- What a foreground step does, by the control, the strategy and the fresh key.
-use Rattle.std.specs.Prelude.{◌≡◌, ◌⊎◌, ℕ, ◌≤◌, Bool, true, false, ◌&&◌, ◌==◌, length, Option, Some, None, if◌then◌else◌}
+use Rattle.std.specs.Prelude.{◌≡◌, ◌⊎◌, ℕ, ◌<◌, ◌≤◌, Bool, true, false, ◌&&◌, ◌==◌, length, Option, Some, None, if◌then◌else◌}
 use Rattle.rv_delivered.specs.Rows.{AddsRow}
 use Rattle.rv_judge.specs.Counting.{leaf_read, page_read, record_read}
 use Rattle.rv_judge.specs.declared.counting.Counts.{Counts}
@@ -15,7 +15,7 @@ use Rattle.rv_judge.specs.Verdicts.{Ruling}
 use Rattle.rv_reader.specs.Shown.{Shown}
 use Rattle.rv_reader.specs.Tables.{row_at}
 use Rattle.rv_scan.specs.Alongs.{looked}
-use Rattle.rv_scan.specs.Places.{PageReads}
+use Rattle.rv_scan.specs.Places.{PageReads, PageTurns}
 use Rattle.rv_scan.specs.Told.{KeyReads}
 use Rattle.rv_scan.specs.declared.skip.Scanned.{Scanned}
 use Rattle.rv_scan.specs.declared.skip.Scanned.TheVariants.{Found, Working, End}
@@ -31,6 +31,7 @@ use Rattle.rv_retrieval.specs.Opens.{fg_of}
 use Rattle.rv_retrieval.specs.Rulings.{GivesOn, gone}
 use Rattle.rv_retrieval.specs.Shape.{Shape, is_background, is_sorted, rows_of}
 use Rattle.rv_final.specs.Stage.{FetchesKey, first_key}
+use Rattle.rv_final.specs.Work.{Falls}
 use Rattle.rv_scan.specs.Fronts.{FrontMayRead, FrontReads, SameFront}
 use Rattle.rv_scan.specs.Reads.{OneAtMost}
 use Rattle.rv_judge.specs.Tracing.{SameCounts, counted, noted}
@@ -47,10 +48,11 @@ pub record Steady (old new : Shape) : Type 0 where
 abbrev pub is_awaiting : Shape → Bool
 is_awaiting v = is_background v.control && under_way v.joint
 
--- the awaited piece is taken, sieved and given
+-- the awaited piece, which is a leaf and so has at most 48 entries, is taken, sieved and given
 pub record OnePiece (would : ℕ → Facts → Ruling) (state after : ℕ) (old new : Shape) : Type 0 where
   pub taken : Joint
   pub piece : Pieced
+  pub short : length piece.entries ≤ 48
   pub leaves : TakeLeaves old.joint taken
   pub awaits : Awaits taken piece
   pub obeys : GivesOn would state after piece Accepted (record old { joint = taken }) new
@@ -63,6 +65,7 @@ StepsBehind false would state after old new = (new ≡ old) × (after ≡ state)
 -- the same where delivered keys are passed over before
 pub record StepsBackground (would : ℕ → Facts → Ruling) (state after : ℕ) (old new : Shape) : Type 0 where
   pub passed : ℕ
+  pub further : old.borrowed ≤ passed
   pub fresh : fresh_of (record old { borrowed = passed }) ≡ fresh_of old
   pub does : StepsBehind (is_awaiting old) would state after (record old { borrowed = passed }) new
 
@@ -104,8 +107,9 @@ ended_by happening (Found r) v = v
 ended_by happening Working v = v
 ended_by happening End v = gone happening v
 
--- the row of a fresh key is fetched, and given exactly where it qualifies
+-- the row of a fresh key, which is then behind, is fetched, and given exactly where it qualifies
 pub record Borrows (key : ℕ) (shown : Shown) (before after : Counts) (s : Scanned) (old new : Shape) : Type 0 where
+  pub further : old.borrowed < new.borrowed
   pub read : after ≡ record_read before
   pub looks : s ≡ looked old.query.only (row_at (rows_of old shown) key)
   pub left : RemembersBy s (record old { borrowed = new.borrowed }) new
@@ -148,8 +152,10 @@ DoesAs WalkBoth would state after shown c d s old new =
     (after ≡ state) × RemembersBy s (record old { front = new.front }) new
 DoesAs NextKey would state after shown c d s old new =
     (after ≡ state) × ListReads old shown c d s × (new ≡ ended_by FinalEnded s (record old { at = new.at }))
+    × Falls s c d (keys_work old) (keys_work new)
 DoesAs NextPage would state after shown c d s old new =
     (after ≡ state) × (new ≡ ended_by FinalEnded s (record old { last = new.last }))
+    × PageTurns s old.last new.last (shown.pages old.query.table old.query.snap)
 DoesAs Over would state after shown c d s old new = (after ≡ state) × (s ≡ End) × (new ≡ old)
 
 -- WHAT A FOREGROUND STEP DOES
@@ -194,6 +200,7 @@ pub record OnlyTakes (old new : Shape) : Type 0 where
   pub same : new ≡ record old { joint = new.joint; borrowed = new.borrowed; at = new.at; trace = new.trace }
   pub leaves : (new.joint ≡ old.joint) ⊎ TakesLeaf old new.joint
   pub fresh : under_way old.joint ≡ true → fresh_of new ≡ fresh_of old
+  pub further : old.borrowed ≤ new.borrowed
   pub fewer : keys_work new ≤ keys_work old
 
 -- what it does and reads, and then what it read is counted

@@ -4,7 +4,7 @@ ghost use Rattle.rv_keys.specs.Keys.{has_key};
 ghost use Rattle.rv_reader.specs.Shown.{Shown, CanRead};
 ghost use Rattle.rv_reader.specs.Tables.{row_at};
 ghost use Rattle.rv_scan.specs.Alongs.{Follows, looked};
-ghost use Rattle.rv_scan.specs.Places.{Fits as PlaceFits, PageReads, unseen, work as pages_work};
+ghost use Rattle.rv_scan.specs.Places.{Fits as PlaceFits, PageReads, PageTurns, unseen, work as pages_work};
 ghost use Rattle.rv_scan.specs.Due.{HaveColumns};
 ghost use Rattle.rv_jscan.specs.Joint.{CanTake, JointFits, keys_of, leaves_ahead, under_way};
 ghost use Rattle.rv_jscan.specs.Steps.{Gives, Nearer, TakeLeaves, Takes, Works, abandoned, awaited_id, begun, counts_read, steps_read};
@@ -378,6 +378,7 @@ impl Retrieval {
         ensures err { OnErr result (self.new ≡ self.old) }
         ensures may_read { OneAtMost page_read steps.old steps.new }
         ensures reads { IfOk result (λ s. PageReads s steps.old steps.new) }
+        ensures turns { IfOk result (λ s. PageTurns s self.old.last self.new.last ((R.shown reader.now).pages self.old.query.table self.old.query.snap)) }
         ensures tries { Tries steps.old steps.new (table_work self.old (R.shown reader.now)) (table_work self.new (R.shown reader.now)) }
         ensures falls { IfOk result (λ s. Falls s steps.old steps.new (table_work self.old (R.shown reader.now)) (table_work self.new (R.shown reader.now))) }
     {

@@ -4,7 +4,7 @@ ghost use Rattle.rv_judge.specs.Counting.{leaf_read, page_read, record_read};
 ghost use Rattle.rv_reader.specs.Shown.{Shown};
 ghost use Rattle.rv_reader.specs.Tables.{row_at};
 ghost use Rattle.rv_scan.specs.Alongs.{looked};
-ghost use Rattle.rv_scan.specs.Places.{PageReads};
+ghost use Rattle.rv_scan.specs.Places.{PageReads, PageTurns};
 ghost use Rattle.rv_scan.specs.Told.{KeyReads};
 ghost use Rattle.rv_jscan.specs.Joint.{under_way};
 ghost use Rattle.rv_retrieval.specs.Accounts.{IsFresh, first_fresh};
@@ -74,6 +74,7 @@ impl Retrieval {
         ensures ends { IfOk result (EndsIn self.new) }
         ensures err { OnErr result (self.new ≡ self.old) }
         ensures does { IfOk result (λ s. self.new ≡ ended_by Happening.FinalEnded s (record self.old { last = self.new.last })) }
+        ensures turns { IfOk result (λ s. PageTurns s self.old.last self.new.last ((R.shown reader.now).pages self.old.query.table self.old.query.snap)) }
         ensures may_read { OneAtMost page_read steps.old steps.new }
         ensures reads { IfOk result (λ s. PageReads s steps.old steps.new) }
         ensures tries { Tries steps.old steps.new (effort self.old (R.shown reader.now)) (effort self.new (R.shown reader.now)) }
@@ -99,6 +100,7 @@ impl Retrieval {
         ensures passes { under_way self.old.joint ≡ true → first_fresh self.new ≡ first_fresh self.old }
         ensures near { IfSome result (λ row. self.new.borrowed < length (lending self.new.joint)) }
         ensures fewer { to_borrow self.new.joint self.new.borrowed ≤ to_borrow self.old.joint self.old.borrowed }
+        ensures further { self.old.borrowed ≤ self.new.borrowed }
     {
         match self.borrowed_key() {
             None => None,

@@ -13,7 +13,7 @@ ghost use Rattle.rv_rivals.specs.Points.{has_entry};
 use crate::looking::{has_null, key_of, point};
 use rv_blocks::Blocks;
 use rv_catalog::IndexDef;
-use rv_judge::Uncounted;
+use rv_judge::{Steps, Uncounted};
 use rv_overlay::fronts::count_in;
 use rv_reader::{Reader, Store};
 use rv_restrict::Restriction;
@@ -38,7 +38,8 @@ pub fn first_equal<S: Store + Reader<Ledger = Uncounted>>(
     }
     let last = store.last();
     let all = Restriction::from_groups(Vec::new(alloc));
-    let rows = kept_rows(alloc, store, def.table, last, &all)?;
+    let mut steps = Steps::new(Uncounted);
+    let rows = kept_rows(alloc, store, def.table, last, &all, &mut steps)?;
     equal_among(alloc, def.columns.as_slice(), rows.as_slice())
 }
 

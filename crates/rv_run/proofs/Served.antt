@@ -1,14 +1,13 @@
 -- The lines of a service, one behind others.
-use Rattle.std.proofs.Common.{◌≡◌, ◌≢◌, ◌≤◌, ◌<◌, ◌+◌, ◌-◌, ◌^◌, ◌++◌, ◌∷◌, ◌⊎◌, ◌↔◌, ℕ, suc, List, [], Bool, true, false, inl, inr, Option, Some, None, Result, Ok, Err, IfSome, IsOkAnd, IsSomeAnd, IsTrue, IsUtf8, refl, sym, ap, subst, ◌∙◌, append_assoc, append-nil, length, length-append, map, max, min, unwrap_or, drop, slice_get, slice_set, arith}
+use Rattle.std.proofs.Common.{◌≡◌, ◌≢◌, ◌≤◌, ◌<◌, ◌+◌, ◌-◌, ◌^◌, ◌++◌, ◌∷◌, ◌⊎◌, ◌↔◌, ℕ, List, [], Bool, true, false, inl, inr, Option, Some, None, Result, Ok, Err, IsOkAnd, IsTrue, IsUtf8, refl, sym, ap, subst, ◌∙◌, append_assoc, append-nil, length, length-append, map, max, min, unwrap_or, drop, slice_get, slice_set, arith}
 use Rattle.std.proofs.lemmas.Grind.{flat_map-append}
 use Rattle.std.proofs.Math.Seq.{drop-append_seam}
 use Rattle.std.proofs.lemmas.List.{map-append, take_all}
 use Rattle.std.proofs.lemmas.Str.{IsUtf8-nil}
 use Rattle.std.specs.Io.KnownBytes.{Appends, Consumes, IsAtEnd, Keeps as KnownKeeps}
-use Rattle.std.specs.Str.{IsValidUpTo}
 use Rattle.rv_io.specs.Causes.{Rose}
-use Rattle.rv_io.specs.Lines.{IsLine, TakesLine, TakesLongLine, TakesSome}
-use Rattle.rv_io.specs.Pieces.{AppendsFront, TakesAll}
+use Rattle.rv_io.specs.Lines.{IsLine, TakesLine, TakesLongLine}
+use Rattle.rv_io.specs.Pieces.{AppendsFront}
 use Rattle.rv_io.specs.declared.all.ReadFault.{ReadFault}
 use Rattle.rv_io.specs.declared.all.ReadFault.TheVariants as reading
 use Rattle.rv_io.proofs.Streams.{appends_keeps, appends_more, appends_none, consumes_more, consumes_none, front_right}
@@ -30,7 +29,6 @@ use Rattle.rv_core.specs.declared.settings.Settings.{Settings}
 use Rattle.rv_core.specs.Core.{Shown}
 use Rattle.rv_run.specs.declared.service.Stop.{Stop}
 use Rattle.rv_run.specs.declared.service.Stop.TheVariants as stops
-use Rattle.rv_run.specs.declared.status.Over.TheVariants as over
 use Rattle.rv_run.specs.declared.status.Status.{Status}
 use Rattle.rv_run.specs.declared.status.Status.TheVariants as statuses
 use Rattle.rv_judge.specs.declared.judging.Facts.{Facts}
@@ -40,8 +38,8 @@ use Rattle.rv_words.specs.Words.{AreAccepted, Ask}
 use Rattle.rv_run.specs.Judges.{all_but, by_number, filled, ruling_after}
 use Rattle.rv_run.specs.Making.{Anywhere}
 use Rattle.rv_run.specs.Ruling.{AnswersAll, AnswersFirst, AnswersUnder, Between, CallsUnder, FirstCallsUnder, Judging, RuledCall, between, fresh, in_phase, judging, ruled_by, ruled_from}
-use Rattle.rv_run.specs.Script.{Call, HasAllCalls, HasFirst, IsInOrder, Runs, Write, call, calls_from, calls_in, calls_made}
-use Rattle.rv_run.specs.Serving.{AreWholeLines, AskService, EndsSo, HasFaultyLine, HasTooManyBytes, IfDone, IsLongLine, Makes, PassesLine, Serves, ServesAll, ServesBefore, ServesLine, WrittenBy, calls_with, line_status, phase_with, placed, ruling_with, stop_status}
+use Rattle.rv_run.specs.Script.{Call, HasAllCalls, IsInOrder, Runs, Write, call, calls_from, calls_in, calls_made}
+use Rattle.rv_run.specs.Serving.{AreWholeLines, AskService, EndsSo, HasFaultyLine, HasTooManyBytes, IfDone, Makes, Serves, ServesAll, ServesLine, WrittenBy, calls_with, line_status, phase_with, ruling_with, stop_status}
 use Rattle.rv_run.proofs.CallLists.{all_calls, calls_in-append}
 use Rattle.rv_run.proofs.Ends.{of_told, told}
 use Rattle.rv_run.proofs.Rulings.{all_append, calls_under, first_calls_under, seat_moved, seated}

@@ -16,7 +16,7 @@ use Rattle.rv_reader.proofs.Filters.{rising_cut}
 use Rattle.rv_scan.specs.declared.skip.Scanned.{Scanned}
 use Rattle.rv_scan.specs.declared.skip.Scanned.TheVariants.{Found, Working, End}
 use Rattle.rv_scan.specs.Due.{Skipped, is_due, due, FindsDue, HaveColumns, StepsTo}
-use Rattle.rv_scan.specs.Places.{Place, Turns, rows_from, Fits, rest, work}
+use Rattle.rv_scan.specs.Places.{PageTurns, Place, Turns, rows_from, Fits, rest, work}
 
 pub split_page : (page : ℕ) (rows : List Record) → Ascend rows → rows_from rows page ≡ page_of rows page ++ rows_from rows (page + 1)
 split_page page rows ascend =
@@ -96,6 +96,15 @@ turned_keeps : (scanned : Scanned) (old new : Place) (rows : List Record) (pages
 turned_keeps (Found r) old new rows pages table fits turns = elim turns [ ]
 turned_keeps Working old new rows pages table fits turns = rw turns.1 (turned_fits old rows table.ascend fits)
 turned_keeps End old new rows pages table fits turns = rw turns.1 fits
+
+turned_page : (scanned : Scanned) (old new : Place) (rows : List Record) (pages : ℕ) → Turns old new rows pages scanned → PageTurns scanned old new pages
+turned_page (Found r) old new rows pages turns = elim turns [ ]
+turned_page Working old new rows pages turns = (turns.0, ap (λ (p : Place). p.next) turns.1)
+turned_page End old new rows pages turns = ap (λ (p : Place). p.next) turns.1
+
+pub pages_after : {E : Type 0} (r : Result Scanned E) (old new : Place) (rows : List Record) (pages : ℕ) → IfOk r (Turns old new rows pages) → IfOk r (λ scanned. PageTurns scanned old new pages)
+pages_after (Ok scanned) old new rows pages turns = turned_page scanned old new rows pages turns
+pages_after (Err e) old new rows pages turns = tt
 
 pub fits_after : {E : Type 0} (r : Result Scanned E) (old new : Place) (rows : List Record) (pages : ℕ) → IsTable rows pages → Fits old rows → IfOk r (Turns old new rows pages) → OnErr r (new ≡ old) → Fits new rows
 fits_after (Ok scanned) old new rows pages table fits turns err = turned_keeps scanned old new rows pages table fits turns

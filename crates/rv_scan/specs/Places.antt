@@ -42,6 +42,12 @@ PageReads (Found r) old new = new ≡ old
 PageReads Working old new = new ≡ page_read old
 PageReads End old new = new ≡ old
 
+-- what a step does to the next page: a page that is read was there, and is behind it
+abbrev pub PageTurns : Scanned → Place → Place → ℕ → Type 0
+PageTurns (Found r) old new pages = new.next ≡ old.next
+PageTurns Working old new pages = (old.next < pages) × (new.next ≡ old.next + 1)
+PageTurns End old new pages = new.next ≡ old.next
+
 -- the next page is read, or there is none
 abbrev pub Turns : Place → Place → List Record → ℕ → Scanned → Type 0
 Turns old new rows pages (Found r) = ⊥

@@ -7,20 +7,19 @@ ghost use Rattle.rv_judge.specs.Counting.{reads};
 
 use crate::fscan::Fscan;
 use crate::skip::{Scanned, Skip};
-use crate::sscan::Sscan;
 use rv_judge::Steps;
 use rv_reader::Reader;
 use rv_restrict::Restriction;
 use rv_value::{Items, NoMemory};
 use std::marker::Model;
 
-/// A foreground's scan of an index: by the index alone where it has every column needed, else with fetches.
+/// A foreground's scan of an index: by the index alone where it has every column needed, else with fetches. It has one
+/// walk, along which it goes in either way; contracts see it in both places.
 #[derive(Drop)]
 pub struct Front {
     alone: bool,
     columns: Items<u32>,
     fetching: Fscan,
-    telling: Sscan,
 }
 
 impl Model for Front {
@@ -28,18 +27,17 @@ impl Model for Front {
 
     ghost Value = { Front };
 
-    ghost view = { λ f. record { alone = f.alone; columns = f.columns; fetching = f.fetching; telling = f.telling } };
+    ghost view = { λ f. record { alone = f.alone; columns = f.columns; fetching = f.fetching; telling = f.fetching.walk } };
 }
 
 impl Front {
-    pub fn new(alone: bool, columns: Items<u32>, fetching: Fscan, telling: Sscan) -> Front
-        ensures { result ≡ record { alone = alone; columns = columns; fetching = fetching; telling = telling } }
+    pub fn new(alone: bool, columns: Items<u32>, fetching: Fscan) -> Front
+        ensures { result ≡ record { alone = alone; columns = columns; fetching = fetching; telling = fetching.walk } }
     {
         Front {
             alone,
             columns,
             fetching,
-            telling,
         }
     }
 
@@ -96,8 +94,8 @@ impl Front {
         ensures may_read { FrontMayRead self.old.alone steps.old steps.new }
         ensures reads { IfOk result (λ s. FrontReads self.old.alone s steps.old steps.new) }
     {
-        self.telling
-            .step(reader, only, skip, self.columns.as_slice(), steps)
+        self.fetching
+            .tell(reader, only, skip, self.columns.as_slice(), steps)
     }
 
     /// The next row, or a read that brings it nearer.

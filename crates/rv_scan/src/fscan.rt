@@ -9,10 +9,12 @@ ghost use Rattle.rv_reader.specs.Shown.{CanRead, CanScan, Suits};
 ghost use Rattle.rv_reader.specs.Tables.{row_at};
 ghost use Rattle.rv_scan.specs.Due.{HaveColumns, IsReady, Skipped, StepsTo, due, skipped};
 ghost use Rattle.rv_scan.specs.Alongs.{Follows, FetchReads, FetchesDue, FindsEntry, SamePlace, TriedOne, Turned, fetch_rest, fetched, leaf_work, looked, to_fetch};
+ghost use Rattle.rv_scan.specs.Told.{KeyReads, NamesThese, SameWalk, TriedLeaf, told_rest};
 ghost use Rattle.rv_scan.specs.declared.along.Ahead.TheVariants.{First};
 
 use crate::along::{Walk, next_given};
 use crate::skip::{Scanned, Skip};
+use crate::sscan::tell_along;
 use rv_judge::Steps;
 use rv_reader::Reader;
 use rv_restrict::{Restriction, Tri};
@@ -136,6 +138,31 @@ impl Fscan {
             Some((passed, row)) => self.fetch(reader, passed, row, only, steps),
             None => self.turn(reader, steps),
         }
+    }
+
+    /// A step of a scan of the index alone on the same walk. `columns` are the index's columns, and no record is fetched.
+    pub(crate) fn tell<R: Reader>(
+        &mut self,
+        reader: &R,
+        only: &Restriction,
+        skip: &Skip<'_>,
+        columns: &[u32],
+        steps: &mut Steps<R::Ledger>,
+    ) -> Result<Scanned, NoMemory>
+        requires scans { CanScan (R.shown reader.now) self.old.walk.index self.old.walk.snap }
+        requires suits { Suits (R.shown reader.now) self.old.walk.index self.old.walk.snap self.old.walk.range }
+        requires names { NamesThese columns.now only.now }
+        requires ready { IsReady (skipped skip.now) }
+        ensures table { self.new.table ≡ self.old.table }
+        ensures walk { SameWalk self.old.walk self.new.walk }
+        ensures follows { Follows self.old.walk ((R.shown reader.now).entries self.old.walk.index self.old.walk.snap) → Follows self.new.walk ((R.shown reader.now).entries self.old.walk.index self.old.walk.snap) }
+        ensures step { let shown = R.shown reader.now in let entries = shown.entries self.old.walk.index self.old.walk.snap in let cuts = shown.cuts self.old.walk.index self.old.walk.snap in IfOk result (λ scanned. StepsTo scanned (told_rest self.old.walk entries columns.now only.now (skipped skip.now)) (leaf_work self.old.walk entries cuts) (told_rest self.new.walk entries columns.now only.now (skipped skip.now)) (leaf_work self.new.walk entries cuts)) }
+        ensures reads { IfOk result (λ scanned. KeyReads scanned steps.old steps.new) }
+        ensures err { OnErr result (self.new ≡ self.old) }
+        ensures tried { OnErr result (TriedLeaf steps.old steps.new) }
+        ensures same { (steps.new.pages ≡ steps.old.pages) × (steps.new.records ≡ steps.old.records) }
+    {
+        tell_along(&mut self.walk, reader, only, skip, columns, steps)
     }
 
     /// Reads the next leaf, or ends where there is none.

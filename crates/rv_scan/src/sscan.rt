@@ -136,6 +136,72 @@ fn next_told(
     Ok(None)
 }
 
+/// The next record that is to be given on a walk, and how many entries stand before its own.
+fn next_on(
+    walk: &Walk,
+    only: &Restriction,
+    skip: &Skip<'_>,
+    columns: &[u32],
+) -> Result<Option<(usize, Record)>, NoMemory>
+    requires names { NamesThese columns.now only.now }
+    requires ready { IsReady (skipped skip.now) }
+    ensures { IfOk result (FindsTold columns.now only.now (skipped skip.now) walk.now.held) }
+{
+    next_told(walk.allocator(), walk.held(), only, skip, columns)
+}
+
+/// Reads the next leaf of a walk, or ends where there is none.
+fn turn_on<R: Reader>(
+    walk: &mut Walk,
+    reader: &R,
+    steps: &mut Steps<R::Ledger>,
+) -> Result<Scanned, NoMemory>
+    requires scans { CanScan (R.shown reader.now) walk.old.index walk.old.snap }
+    requires suits { Suits (R.shown reader.now) walk.old.index walk.old.snap walk.old.range }
+    ensures goes { IfOk result (Goes walk.old walk.new ((R.shown reader.now).entries walk.old.index walk.old.snap) ((R.shown reader.now).cuts walk.old.index walk.old.snap)) }
+    ensures reads { IfOk result (λ scanned. KeyReads scanned steps.old steps.new) }
+    ensures err { OnErr result (walk.new ≡ walk.old) }
+    ensures tried { OnErr result (steps.new ≡ leaf_read steps.old) }
+    ensures same { (steps.new.pages ≡ steps.old.pages) × (steps.new.records ≡ steps.old.records) }
+{
+    let more = walk.turn(reader, steps)?;
+    if more {
+        Ok(Scanned::Working)
+    } else {
+        Ok(Scanned::End)
+    }
+}
+
+/// Gives the next record that the index tells on a walk, or reads the next leaf, or ends. `columns` are the index's columns.
+pub fn tell_along<R: Reader>(
+    walk: &mut Walk,
+    reader: &R,
+    only: &Restriction,
+    skip: &Skip<'_>,
+    columns: &[u32],
+    steps: &mut Steps<R::Ledger>,
+) -> Result<Scanned, NoMemory>
+    requires scans { CanScan (R.shown reader.now) walk.old.index walk.old.snap }
+    requires suits { Suits (R.shown reader.now) walk.old.index walk.old.snap walk.old.range }
+    requires names { NamesThese columns.now only.now }
+    requires ready { IsReady (skipped skip.now) }
+    ensures walk { SameWalk walk.old walk.new }
+    ensures follows { Follows walk.old ((R.shown reader.now).entries walk.old.index walk.old.snap) → Follows walk.new ((R.shown reader.now).entries walk.old.index walk.old.snap) }
+    ensures step { let shown = R.shown reader.now in let entries = shown.entries walk.old.index walk.old.snap in let cuts = shown.cuts walk.old.index walk.old.snap in IfOk result (λ scanned. StepsTo scanned (told_rest walk.old entries columns.now only.now (skipped skip.now)) (leaf_work walk.old entries cuts) (told_rest walk.new entries columns.now only.now (skipped skip.now)) (leaf_work walk.new entries cuts)) }
+    ensures reads { IfOk result (λ scanned. KeyReads scanned steps.old steps.new) }
+    ensures err { OnErr result (walk.new ≡ walk.old) }
+    ensures tried { OnErr result (TriedLeaf steps.old steps.new) }
+    ensures same { (steps.new.pages ≡ steps.old.pages) × (steps.new.records ≡ steps.old.records) }
+{
+    match next_on(walk, only, skip, columns)? {
+        Some((passed, record)) => {
+            walk.pass(passed);
+            Ok(Scanned::Found(record))
+        }
+        None => turn_on(walk, reader, steps),
+    }
+}
+
 impl Sscan {
     /// A scan that has read nothing. It takes no memory.
     pub fn new(alloc: Global, index: u32, snap: u64, range: Range) -> Sscan
@@ -174,56 +240,6 @@ impl Sscan {
         ensures tried { OnErr result (TriedLeaf steps.old steps.new) }
         ensures same { (steps.new.pages ≡ steps.old.pages) × (steps.new.records ≡ steps.old.records) }
     {
-        match self.next(only, skip, columns)? {
-            Some((passed, record)) => {
-                self.pass(passed);
-                Ok(Scanned::Found(record))
-            }
-            None => self.turn(reader, steps),
-        }
-    }
-
-    /// The next record that is to be given, and how many entries stand before its own.
-    fn next(
-        &self,
-        only: &Restriction,
-        skip: &Skip<'_>,
-        columns: &[u32],
-    ) -> Result<Option<(usize, Record)>, NoMemory>
-        requires names { NamesThese columns.now only.now }
-        requires ready { IsReady (skipped skip.now) }
-        ensures { IfOk result (FindsTold columns.now only.now (skipped skip.now) self.now.held) }
-    {
-        next_told(self.walk.allocator(), self.walk.held(), only, skip, columns)
-    }
-
-    /// Passes over an entry behind so many others.
-    fn pass(&mut self, passed: usize)
-        requires { passed < length self.old.held }
-        ensures { self.new ≡ record self.old { held = drop (passed + 1) self.old.held } }
-    {
-        self.walk.pass(passed);
-    }
-
-    /// Reads the next leaf, or ends where there is none.
-    fn turn<R: Reader>(
-        &mut self,
-        reader: &R,
-        steps: &mut Steps<R::Ledger>,
-    ) -> Result<Scanned, NoMemory>
-        requires scans { CanScan (R.shown reader.now) self.old.index self.old.snap }
-        requires suits { Suits (R.shown reader.now) self.old.index self.old.snap self.old.range }
-        ensures goes { IfOk result (Goes self.old self.new ((R.shown reader.now).entries self.old.index self.old.snap) ((R.shown reader.now).cuts self.old.index self.old.snap)) }
-        ensures reads { IfOk result (λ scanned. KeyReads scanned steps.old steps.new) }
-        ensures err { OnErr result (self.new ≡ self.old) }
-        ensures tried { OnErr result (steps.new ≡ leaf_read steps.old) }
-        ensures same { (steps.new.pages ≡ steps.old.pages) × (steps.new.records ≡ steps.old.records) }
-    {
-        let more = self.walk.turn(reader, steps)?;
-        if more {
-            Ok(Scanned::Working)
-        } else {
-            Ok(Scanned::End)
-        }
+        tell_along(&mut self.walk, reader, only, skip, columns, steps)
     }
 }

@@ -6,7 +6,7 @@ ghost use Rattle.rv_restrict.specs.declared.atom.Atom.{Atom};
 ghost use Rattle.rv_reader.specs.Shown.{CanRead};
 ghost use Rattle.rv_reader.specs.Tables.{IsTable};
 ghost use Rattle.rv_scan.specs.Due.{HaveColumns, IsReady, Skipped, StepsTo, due, skipped};
-ghost use Rattle.rv_scan.specs.Places.{Fits, PageReads, Turns, rest, work};
+ghost use Rattle.rv_scan.specs.Places.{Fits, PageReads, PageTurns, Turns, rest, work};
 
 use crate::skip::{Scanned, Skip, next_due};
 use rv_judge::Steps;
@@ -123,6 +123,7 @@ impl Tscan {
         ensures fits { Fits self.new ((R.shown reader.now).rows self.old.table self.old.snap) }
         ensures step { let rows = (R.shown reader.now).rows self.old.table self.old.snap in let pages = (R.shown reader.now).pages self.old.table self.old.snap in IfOk result (λ scanned. StepsTo scanned (rest self.old rows only.now (skipped skip.now)) (work self.old rows pages) (rest self.new rows only.now (skipped skip.now)) (work self.new rows pages)) }
         ensures reads { IfOk result (λ scanned. PageReads scanned steps.old steps.new) }
+        ensures pages { IfOk result (λ scanned. PageTurns scanned self.old self.new ((R.shown reader.now).pages self.old.table self.old.snap)) }
         ensures err { OnErr result (self.new ≡ self.old) }
         ensures tried { OnErr result (steps.new ≡ page_read steps.old) }
     {

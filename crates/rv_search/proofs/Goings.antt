@@ -1,7 +1,8 @@
 -- Steps of a search one after another, from its opening to its end.
-use Rattle.std.proofs.Common.{◌≡◌, ◌⊎◌, ℕ, List, [], ◌∷◌, ◌++◌, refl, sym, subst, inr, Result, Ok, Err, IfOk, OnOk, OnErr}
+use Rattle.std.proofs.Common.{◌≡◌, ◌⊎◌, ℕ, List, [], ◌∷◌, ◌++◌, false, refl, sym, subst, inr, Result, Ok, Err, IfOk, OnOk, OnErr}
 use Rattle.rv_judge.specs.declared.counting.Counts.{Counts}
 use Rattle.rv_judge.specs.declared.judging.Facts.{Facts}
+use Rattle.rv_judge.specs.Tracing.{CountsAll}
 use Rattle.rv_judge.specs.Verdicts.{Ruling}
 use Rattle.rv_reader.specs.Shown.{Shown}
 use Rattle.rv_choice.specs.declared.query.Query.{Query}
@@ -9,7 +10,7 @@ use Rattle.rv_retrieval.specs.declared.steps.Fg.{Fg}
 use Rattle.rv_retrieval.specs.declared.steps.Fg.TheVariants.{End}
 use Rattle.rv_retrieval.specs.Opened.{Opened}
 use Rattle.rv_retrieval.specs.Shape.{Shape}
-use Rattle.rv_retrieval.specs.Short.{OnlyLeaves}
+use Rattle.rv_retrieval.specs.Short.{OnlyLeaves, has_short}
 use Rattle.rv_retrieval.specs.Stepping.{StepsAs}
 use Rattle.rv_search.specs.Searching.{Goes, GoesOut, GoesSome, Ran, RanFetched, RanOut, Searched, StepsAll, searched}
 
@@ -55,9 +56,9 @@ some_on v w s t u shown c d old mid rule before more = by (subst (λ (x : ℕ �
 
 -- From the opening on.
 
-pub ran_out : {X E : Type 0} (r : Result X E) (would : ℕ → Facts → Ruling) (state after : ℕ) (shown : Shown) (c d e : Counts) (query : Query) (v : Shape) → Opened query shown 0 0 v → OnlyLeaves c d → OnOk r (GoesOut would state after shown d e v) → OnOk r (RanOut would state after shown c e query)
-ran_out (Ok x) would state after shown c d e query v opened only goes = record { begun = v; counts = d; only = only; opened = opened; goes = goes }
-ran_out (Err x) would state after shown c d e query v opened only goes = tt
+pub ran_out : {X E : Type 0} (r : Result X E) (would : ℕ → Facts → Ruling) (state after : ℕ) (shown : Shown) (c d e : Counts) (query : Query) (v : Shape) → Opened query shown 0 0 v → OnlyLeaves c d → (has_short query shown ≡ false → d ≡ c) → CountsAll v.trace c d → OnOk r (GoesOut would state after shown d e v) → OnOk r (RanOut would state after shown c e query)
+ran_out (Ok x) would state after shown c d e query v opened only unread told goes = record { begun = v; counts = d; only = only; unread = unread; told = told; opened = opened; goes = goes }
+ran_out (Err x) would state after shown c d e query v opened only unread told goes = tt
 
 pub ran_lost : {X E : Type 0} (r : Result X E) (would : ℕ → Facts → Ruling) (state after : ℕ) (shown : Shown) (d : Counts) (query : Query) (v : Shape) → Opened query shown 0 0 v → OnErr r (GoesSome would state after shown d v) → OnErr r ((after ≡ state) ⊎ Ran would state after shown query)
 ran_lost (Ok x) would state after shown d query v opened goes = tt

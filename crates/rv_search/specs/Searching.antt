@@ -8,6 +8,7 @@ use Rattle.rv_judge.specs.declared.counting.Counts.{Counts}
 use Rattle.rv_judge.specs.declared.judging.Facts.{Facts}
 use Rattle.rv_judge.specs.Verdicts.{Ruling}
 use Rattle.rv_judge.specs.Counting.{reads}
+use Rattle.rv_judge.specs.Tracing.{CountsAll}
 use Rattle.rv_restrict.specs.declared.atom.Atom.{Atom}
 use Rattle.rv_restrict.specs.Ranges.{range_for}
 use Rattle.rv_reader.specs.Shown.{Shown}
@@ -16,7 +17,7 @@ use Rattle.rv_choice.specs.declared.query.Query.{Query}
 use Rattle.rv_choice.specs.declared.query.Goal2.TheVariants.{TotalTime}
 use Rattle.rv_retrieval.specs.Effort.{Awaiting, effort}
 use Rattle.rv_retrieval.specs.Shape.{RetrievalFits, Shape, rest}
-use Rattle.rv_retrieval.specs.Short.{OnlyLeaves, Settled, fetches_left}
+use Rattle.rv_retrieval.specs.Short.{OnlyLeaves, Settled, fetches_left, has_short}
 use Rattle.rv_retrieval.specs.Opened.{Opened}
 use Rattle.rv_retrieval.specs.Stepping.{StepsAs}
 use Rattle.rv_retrieval.specs.declared.steps.Fg.{Fg}
@@ -111,11 +112,14 @@ pub record Ran (would : ℕ → Facts → Ruling) (state after : ℕ) (shown : S
   pub opened : Opened query shown 0 0 begun
   pub goes : GoesSome would state after shown counts begun
 
--- A SEARCH TO ITS END, which read leaves alone at opening, and then what these steps read
+-- A SEARCH TO ITS END, which read leaves alone at opening, and where no index is short nothing, and then what these steps
+-- read
 pub record RanOut (would : ℕ → Facts → Ruling) (state after : ℕ) (shown : Shown) (c d : Counts) (query : Query) : Type 0 where
   pub begun : Shape
   pub counts : Counts
   pub only : OnlyLeaves c counts
+  pub unread : has_short query shown ≡ false → counts ≡ c
+  pub told : CountsAll begun.trace c counts
   pub opened : Opened query shown 0 0 begun
   pub goes : GoesOut would state after shown counts d begun
 

@@ -116,7 +116,14 @@ impl Store for Paged {
         self.newest
     }
 
-    fn lent(&self, table: u32, snap: u64, n: u32) -> Option<&[Record]> {
+    fn lent(
+        &self,
+        table: u32,
+        snap: u64,
+        n: u32,
+        steps: &mut Steps<Uncounted>,
+    ) -> Option<&[Record]> {
+        steps.page();
         Some(self.tables[table as usize].records.rows(n, snap))
     }
 

@@ -1,8 +1,9 @@
 -- What UPDATE and DELETE ask, and which rows they change.
-use Rattle.std.specs.Prelude.{◌≡◌, ℕ, List, Option, Some, None, true, length, IfSome, if◌then◌else◌}
+use Rattle.std.specs.Prelude.{◌≡◌, ℕ, ◌+◌, ◌≤◌, List, Option, Some, None, true, length, IfSome, if◌then◌else◌}
 use Rattle.std.specs.List.{AllByRecursion}
 use Rattle.rv_value.specs.declared.value.Value.{Value}
 use Rattle.rv_value.specs.declared.record.Record.{Record}
+use Rattle.rv_judge.specs.declared.counting.Counts.{Counts}
 use Rattle.rv_rows.specs.declared.changes.Change.{Change}
 use Rattle.rv_restrict.specs.declared.atom.Atom.{Atom}
 use Rattle.rv_restrict.specs.Bind.{passes_home}
@@ -21,6 +22,12 @@ pub record CanChange (shown : Shown) (t : Transaction) (table : ℕ) (only : Lis
   pub rows : CanRead shown table t.base
   pub over : names_only (passes_home (is_column (shown.columns table))) only ≡ true
   pub wide : AllByRecursion (IsWide table (shown.columns table)) t.changes
+
+-- WHAT THE READING OF SO MANY PAGES COUNTS: at most one for each, no leaf and no record
+pub record OnlyPages (most : ℕ) (c d : Counts) : Type 0 where
+  pub pages : d.pages ≤ c.pages + most
+  pub leaves : d.leaves ≡ c.leaves
+  pub records : d.records ≡ c.records
 
 -- a row has the columns that a restriction names
 abbrev pub HasColumns : List (List Atom) → List Value → Type 0

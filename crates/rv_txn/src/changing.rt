@@ -9,13 +9,14 @@ ghost use Rattle.rv_restrict.specs.Bind.{passes_home};
 ghost use Rattle.rv_restrict.specs.Truth.{names_only, qualifies};
 ghost use Rattle.rv_catalog.specs.Fits.{is_column};
 ghost use Rattle.rv_reader.specs.Shown.{CanRead};
+ghost use Rattle.rv_judge.specs.Counting.{page_read};
 ghost use Rattle.rv_reader.specs.Tables.{page_of};
 ghost use Rattle.rv_model.specs.Transactions.{change_of, changed_with, met, new_values, seen, with_sets};
-ghost use Rattle.rv_txn.specs.Changing.{CanChange, HasColumns, HaveColumns, LeavesColumns, kept_change, kept_values};
+ghost use Rattle.rv_txn.specs.Changing.{CanChange, HasColumns, HaveColumns, LeavesColumns, OnlyPages, kept_change, kept_values};
 
-use rv_judge::{Steps, Uncounted};
+use rv_judge::Steps;
 use rv_model::Transaction;
-use rv_reader::{Reader, Store};
+use rv_reader::Store;
 use rv_restrict::{Restriction, Tri};
 use rv_rows::{Change, Changes, RowKey, add_rows, put_row};
 use rv_value::{Duplicate, NoMemory, Record, Value, Values, copy_slice};
@@ -77,8 +78,8 @@ fn add_copies(
     }
 }
 
-/// Puts the rows of a page of a table that WHERE keeps behind others.
-fn add_page<S: Store + Reader<Ledger = Uncounted>>(
+/// Puts the rows of a page of a table that WHERE keeps behind others. It reads that page, whether the store lends it or not.
+fn add_page<S: Store>(
     alloc: Global,
     kept: &mut Vec<Record>,
     store: &S,
@@ -86,40 +87,43 @@ fn add_page<S: Store + Reader<Ledger = Uncounted>>(
     snap: u64,
     n: u32,
     only: &Restriction,
+    steps: &mut Steps<S::Ledger>,
 ) -> Result<(), NoMemory>
     requires can { CanRead (S.shown store.now) table snap }
     requires columns { HaveColumns only.now (page_of ((S.shown store.now).rows table snap) n) }
-    ensures { OnOk result (kept.new.items ≡ kept.old.items ++ filter (λ r. qualifies only.now r.values) (page_of ((S.shown store.now).rows table snap) n)) }
+    ensures added { OnOk result (kept.new.items ≡ kept.old.items ++ filter (λ r. qualifies only.now r.values) (page_of ((S.shown store.now).rows table snap) n)) }
+    ensures counted { steps.new ≡ page_read steps.old }
 {
-    match store.lent(table, snap, n) {
+    match store.lent(table, snap, n, steps) {
         Some(page) => add_copies(alloc, kept, page, only),
         None => {
-            let mut steps = Steps::new(Uncounted);
-            let page = store.page(alloc, table, snap, n, &mut steps)?;
+            let page = store.page(alloc, table, snap, n, steps)?;
             add_kept(kept, page, only)
         }
     }
 }
 
-/// The rows of a table at a snapshot that WHERE keeps, page by page.
-pub fn kept_rows<S: Store + Reader<Ledger = Uncounted>>(
+/// The rows of a table at a snapshot that WHERE keeps, page by page: each is read once at most, and nothing else is read.
+pub fn kept_rows<S: Store>(
     alloc: Global,
     store: &S,
     table: u32,
     snap: u64,
     only: &Restriction,
+    steps: &mut Steps<S::Ledger>,
 ) -> Result<Vec<Record>, NoMemory>
     requires can { CanRead (S.shown store.now) table snap }
     requires over { names_only (passes_home (is_column ((S.shown store.now).columns table))) only.now ≡ true }
     ensures kept { IfOk result (λ kept. kept.items ≡ filter (λ r. qualifies only.now r.values) ((S.shown store.now).rows table snap)) }
     ensures ascend { OnOk result (Ascend ((S.shown store.now).rows table snap)) }
+    ensures only { OnlyPages ((S.shown store.now).pages table snap) steps.old steps.new }
 {
     // What a store tells with its newest commit holds of all its rows.
     let _newest = store.last();
     let sizes = store.sizes(table, snap);
     let mut kept = Vec::new(alloc);
     'pages: for n in 0..sizes.pages {
-        add_page(alloc, &mut kept, store, table, snap, n, only)?;
+        add_page(alloc, &mut kept, store, table, snap, n, only, steps)?;
     }
     Ok(kept)
 }
@@ -202,34 +206,38 @@ fn lay_over(
     Ok(all)
 }
 
-/// The rows of a transaction's view that WHERE keeps.
-pub fn met_rows<S: Store + Reader<Ledger = Uncounted>>(
+/// The rows of a transaction's view that WHERE keeps. It reads each page of the table once at most, and nothing else.
+pub fn met_rows<S: Store>(
     alloc: Global,
     transaction: &Transaction,
     store: &S,
     table: u32,
     only: &Restriction,
+    steps: &mut Steps<S::Ledger>,
 ) -> Result<Vec<Record>, NoMemory>
     requires { CanChange (S.shown store.now) transaction.now table only.now }
-    ensures { IfOk result (λ rows. rows.items ≡ met transaction.now table only.now ((S.shown store.now).rows table)) }
+    ensures met { IfOk result (λ rows. rows.items ≡ met transaction.now table only.now ((S.shown store.now).rows table)) }
+    ensures only { OnlyPages ((S.shown store.now).pages table transaction.now.base) steps.old steps.new }
 {
-    let kept = kept_rows(alloc, store, table, transaction.base, only)?;
+    let kept = kept_rows(alloc, store, table, transaction.base, only, steps)?;
     let rows = lay_over(alloc, kept.as_slice(), &transaction.changes, table, only)?;
     Ok(rows)
 }
 
-/// The rows of a table in a transaction's view.
-pub fn viewed_rows<S: Store + Reader<Ledger = Uncounted>>(
+/// The rows of a table in a transaction's view. It reads each page of the table once at most, and nothing else.
+pub fn viewed_rows<S: Store>(
     alloc: Global,
     transaction: &Transaction,
     store: &S,
     table: u32,
+    steps: &mut Steps<S::Ledger>,
 ) -> Result<Vec<Record>, NoMemory>
     requires { CanRead (S.shown store.now) table transaction.now.base }
-    ensures { IfOk result (λ rows. rows.items ≡ seen transaction.now table ((S.shown store.now).rows table)) }
+    ensures seen { IfOk result (λ rows. rows.items ≡ seen transaction.now table ((S.shown store.now).rows table)) }
+    ensures only { OnlyPages ((S.shown store.now).pages table transaction.now.base) steps.old steps.new }
 {
     let all = Restriction::from_groups(Vec::new(alloc));
-    let kept = kept_rows(alloc, store, table, transaction.base, &all)?;
+    let kept = kept_rows(alloc, store, table, transaction.base, &all, steps)?;
     let rows = lay_over(alloc, kept.as_slice(), &transaction.changes, table, &all)?;
     Ok(rows)
 }

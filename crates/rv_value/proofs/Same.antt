@@ -1,5 +1,5 @@
 -- Values and their lists that compare as equal are the same, and each compares as equal to itself; an equality by a test, and fronts.
-use Rattle.std.proofs.Common.{◌≡◌, ℕ, ℤ, List, [], ◌∷◌, true, refl, ap, ◌∙◌, arith, length}
+use Rattle.std.proofs.Common.{◌≡◌, ℕ, ℤ, List, [], ◌∷◌, true, refl, ap, sym, ◌∙◌, arith, length}
 use Rattle.std.specs.Ordering.{int_cmp, is_eq, nat_cmp, ordering_reverse, ordering_then}
 use Rattle.std.specs.Cmp.{ranks, int_ranks, tied_itself}
 use Rattle.std.specs.Cmp.Lexicographic.{slice_cmp}
@@ -65,6 +65,19 @@ prefix_whole [] [] long = refl
 prefix_whole [] (w ∷ ws) long = absurd (omega (arith, long))
 prefix_whole (v ∷ vs) [] long = absurd (omega (arith, long))
 prefix_whole (v ∷ vs) (w ∷ ws) long = ap (ordering_then (value_cmp v w)) (prefix_whole vs ws (omega (arith, long)))
+
+-- Keys of one number each compare as the numbers do.
+
+then_equal : (o : Ordering) → ordering_then o Equal ≡ o
+then_equal Less = refl
+then_equal Equal = refl
+then_equal Greater = refl
+
+pub numbers_prefix : (a b : List Value) (x y : ℤ) → a ≡ Int x ∷ [] → b ≡ Int y ∷ [] → int_cmp x y ≡ prefix_cmp a b
+numbers_prefix a b x y is other = rw (is, other) (sym (then_equal (int_cmp x y)))
+
+pub numbers_whole : (a b : List Value) (x y : ℤ) → a ≡ Int x ∷ [] → b ≡ Int y ∷ [] → int_cmp x y ≡ values_cmp a b
+numbers_whole a b x y is other = rw (is, other) (sym (then_equal (int_cmp x y)))
 
 pub value_itself : (v : Value) → value_cmp v v ≡ Equal
 value_itself v = tied_itself value_cmp_total v

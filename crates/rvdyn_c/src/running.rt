@@ -3,8 +3,10 @@ ghost use Rattle.std.specs.Prelude.{◌≡◌, ◌++◌, IfOk, drop, length, min
 ghost use Rattle.rv_run.specs.Words.{status_words};
 ghost use Rattle.rvdyn_c.specs.Running.{Ends, Runs, told_of};
 
-use crate::memory::{Growing, Lent};
+use crate::memory::Lent;
+use rv_io::GrowingSink;
 use rv_judge::{Contrary, Judge, Patient, Threshold};
+use rv_lending::let_go;
 use rv_run::{Status, run_plain};
 use rv_store::Paged;
 use rv_value::NoMemory;
@@ -81,9 +83,9 @@ fn run_script(alloc: Global, script: &[u8]) -> Result<Ended, NoMemory>
     judges.push(Box::new(alloc, Contrary::new())?)?;
     let store = Paged::new(alloc)?;
     let mut source = Lent::new(script);
-    let mut sink = Growing::new(alloc);
+    let mut sink = GrowingSink::new(alloc);
     let ran = run_plain(alloc, store, &[], &mut source, &mut sink, judges);
-    drop(ran.core);
+    let_go(ran.core);
     Ok(Ended {
         status: ran.status,
         bytes: sink.into_bytes(),

@@ -2,7 +2,7 @@ use Rattle.std.proofs.Common.{arith}
 use Rattle.rv_cursor.specs.Left.{seen_by}
 use Rattle.rv_cursor.proofs.Holding.{piece_stays, pieces_stay}
 use Rattle.rv_cursor.specs.Moves.Move.{Take}
-use Rattle.rv_cursor.proofs.Moving.{back_is, back_moves, gives_back, moves_by, none_works, still_moves, takes_out}
+use Rattle.rv_cursor.proofs.Moving.{back_is, back_moves, gives_back, lacks_give, lacks_moves, lacks_take, moves_by, none_works, takes_out}
 use Rattle.rv_cursor.proofs.cursor.work_piece.Goals as goal
 
 pub returns-in-Ok-Nothing-clause-stays : goal.returns-in-Ok-Nothing-clause-stays
@@ -41,8 +41,18 @@ returns-in-Ok-Nothing-clause-moves g c = moves_by Take _ _ _ _ (takes_out (seen_
 pub returns-in-Err-clause-moves : goal.returns-in-Err-clause-moves
 returns-in-Err-clause-moves g c = moves_by Take _ _ _ _ (takes_out (seen_by (g.R.Reader.shown c.args.reader.now) c.args.cursor.now) _ _ _ c.args.cursor.now.plan c.take.new.self c.take.ensures.reads c.take.ensures.counts c.take.ensures.once c.take.ensures.awaited c.take.ensures.pieces c.take.ensures.course c.take.ensures.stays)
 
+pub returns-in-Err-clause-lacks : goal.returns-in-Err-clause-lacks
+returns-in-Err-clause-lacks g c = lacks_take _ _ _ (λ none. let told = (c.take.ensures.none none).0 in let is = c.in-Err.is in cc) (takes_out (seen_by (g.R.Reader.shown c.args.reader.now) c.args.cursor.now) _ _ _ c.args.cursor.now.plan c.take.new.self c.take.ensures.reads c.take.ensures.counts c.take.ensures.once c.take.ensures.awaited c.take.ensures.pieces c.take.ensures.course c.take.ensures.stays)
+
+pub returns-in-Err-give-clause-lacks : goal.returns-in-Err-give-clause-lacks
+returns-in-Err-give-clause-lacks g c =
+    let is = rw c.in-Ok-Piece.field-0-is at c.in-Ok-Piece.ensures.answers in
+    lacks_give _ _ _ c.in-Ok-Piece.piece.id c.args.cursor.now.plan c.take.new.self c.give.new.self is (takes_out (seen_by (g.R.Reader.shown c.args.reader.now) c.args.cursor.now) _ _ _ c.args.cursor.now.plan c.take.new.self c.take.ensures.reads c.take.ensures.counts c.take.ensures.once c.take.ensures.awaited c.take.ensures.pieces c.take.ensures.course c.take.ensures.stays) c.in-Err-give.ensures.err c.in-Err-give.ensures.quiet
+
 pub returns-in-Err-give-clause-moves : goal.returns-in-Err-give-clause-moves
-returns-in-Err-give-clause-moves g c = still_moves _ _ _ _ c.args.cursor.now.plan c.take.new.self c.give.new.self (takes_out (seen_by (g.R.Reader.shown c.args.reader.now) c.args.cursor.now) _ _ _ c.args.cursor.now.plan c.take.new.self c.take.ensures.reads c.take.ensures.counts c.take.ensures.once c.take.ensures.awaited c.take.ensures.pieces c.take.ensures.course c.take.ensures.stays) c.in-Err-give.ensures.err c.in-Err-give.ensures.quiet
+returns-in-Err-give-clause-moves g c =
+    let is = rw c.in-Ok-Piece.field-0-is at c.in-Ok-Piece.ensures.answers in
+    lacks_moves _ _ _ _ (lacks_give _ _ _ c.in-Ok-Piece.piece.id c.args.cursor.now.plan c.take.new.self c.give.new.self is (takes_out (seen_by (g.R.Reader.shown c.args.reader.now) c.args.cursor.now) _ _ _ c.args.cursor.now.plan c.take.new.self c.take.ensures.reads c.take.ensures.counts c.take.ensures.once c.take.ensures.awaited c.take.ensures.pieces c.take.ensures.course c.take.ensures.stays) c.in-Err-give.ensures.err c.in-Err-give.ensures.quiet)
 
 pub returns-in-Ok-clause-worked : goal.returns-in-Ok-clause-worked
 returns-in-Ok-clause-worked g c =

@@ -77,50 +77,6 @@ returns-in_err-offer-clause-moves g c =
     let shown = g.R.Reader.shown c.args.reader.now in
     moves_by Lost _ _ _ _ (front_err _ (seen_by shown c.args.cursor.now) _ _ _ _ c.args.cursor.now.plan c.step.new.self c.step.ensures.counts c.step.ensures.asks c.step.ensures.once c.in_err-offer.ensures.err c.step.ensures.lost)
 
-pub returns-in_err-work_beside-in-Row-clause-fits : goal.returns-in_err-work_beside-in-Row-clause-fits
-returns-in_err-work_beside-in-Row-clause-fits g c =
-    let shown = g.R.Reader.shown c.args.reader.now in
-    let empty = not_some c.args.cursor.now.hand (sym c.is_some.ensures ∙ c.if-is_some.false) in
-    let moves = rw c.in-Row.is at c.in_ok-offer.ensures.step in
-    let brought = row_stays shown c.args.cursor.now c.step.new.self c.in-Row.offer c.replace.new.self c.replace.ensures.after empty c.requires.fits c.step.ensures.fits moves in
-    let stays = stays_on shown _ _ _ brought c.work_beside.ensures.stays in
-    stays.fits
-
-pub returns-in_err-work_beside-in-Row-clause-same : goal.returns-in_err-work_beside-in-Row-clause-same
-returns-in_err-work_beside-in-Row-clause-same g c =
-    let shown = g.R.Reader.shown c.args.reader.now in
-    let empty = not_some c.args.cursor.now.hand (sym c.is_some.ensures ∙ c.if-is_some.false) in
-    let moves = rw c.in-Row.is at c.in_ok-offer.ensures.step in
-    let brought = row_stays shown c.args.cursor.now c.step.new.self c.in-Row.offer c.replace.new.self c.replace.ensures.after empty c.requires.fits c.step.ensures.fits moves in
-    let stays = stays_on shown _ _ _ brought c.work_beside.ensures.stays in
-    stays.same
-
-pub returns-in_err-work_beside-in-Row-clause-err : goal.returns-in_err-work_beside-in-Row-clause-err
-returns-in_err-work_beside-in-Row-clause-err g c =
-    let shown = g.R.Reader.shown c.args.reader.now in
-    let empty = not_some c.args.cursor.now.hand (sym c.is_some.ensures ∙ c.if-is_some.false) in
-    let moves = rw c.in-Row.is at c.in_ok-offer.ensures.step in
-    let brought = row_stays shown c.args.cursor.now c.step.new.self c.in-Row.offer c.replace.new.self c.replace.ensures.after empty c.requires.fits c.step.ensures.fits moves in
-    let stays = stays_on shown _ _ _ brought c.work_beside.ensures.stays in
-    on_err _ _ stays.left
-
-pub returns-in_err-work_beside-in-Row-clause-held : goal.returns-in_err-work_beside-in-Row-clause-held
-returns-in_err-work_beside-in-Row-clause-held g c =
-    let empty = not_some c.args.cursor.now.hand (sym c.is_some.ensures ∙ c.if-is_some.false) in
-    λ some. absurd (none_held _ some empty)
-
-pub returns-in_err-work_beside-in-Row-clause-moves : goal.returns-in_err-work_beside-in-Row-clause-moves
-returns-in_err-work_beside-in-Row-clause-moves g c =
-    let shown = g.R.Reader.shown c.args.reader.now in
-    let empty = not_some c.args.cursor.now.hand (sym c.is_some.ensures ∙ c.if-is_some.false) in
-    let moves = rw c.in-Row.is at c.in_ok-offer.ensures.step in
-    let front = front_ok (Row c.in-Row.offer) _ (seen_by shown c.args.cursor.now) _ _ _ _ c.args.cursor.now.plan c.step.new.self c.step.ensures.counts c.step.ensures.asks c.step.ensures.once moves (rw c.in-Row.is at c.in_ok-offer.ensures.spends) c.in_ok-offer.ensures.few in
-    moves_on _ _ _ _ _ _ _ c.step.ensures.stays refl (front_moves (Row c.in-Row.offer) _ _ _ _ front) c.work_beside.ensures.moves
-
-pub returns-in_err-work_beside-in-Row-clause-stays_rule : goal.returns-in_err-work_beside-in-Row-clause-stays_rule
-returns-in_err-work_beside-in-Row-clause-stays_rule g c =
-    c.work_beside.ensures.stays_rule ∙ c.step.ensures.stays
-
 pub returns-in_ok-give-in-Row : goal.returns-in_ok-give-in-Row
 returns-in_ok-give-in-Row g c =
     let shown = g.R.Reader.shown c.args.reader.now in
@@ -136,7 +92,7 @@ returns-in_ok-give-in-Row g c =
       err = tt;
       given = c.in_ok-give-in-Row.ensures.given;
       nearer = tt;
-      turn = turn_gives c.in-Row.offer _ _ c.args.beside _ _ _ _ _ _ _ c.work_beside.new.cursor.plan c.give-in-Row.new.cursor.plan empty c.give-in-Row.ensures.plan c.step.ensures.stays refl front c.in_ok-work_beside-in-Row.ensures.beside;
+      turn = turn_gives c.in-Row.offer _ _ c.args.beside _ _ _ _ _ _ _ c.work_beside.new.cursor.plan c.give-in-Row.new.cursor.plan empty c.give-in-Row.ensures.plan c.step.ensures.stays refl front c.work_beside.ensures.beside;
       held = λ some. absurd (none_held _ some empty);
       moves = moves_given _ _ _ _ c.work_beside.new.cursor.plan c.give-in-Row.new.cursor.plan c.give-in-Row.ensures.plan (moves_on _ _ _ _ _ _ _ c.step.ensures.stays refl (front_moves (Row c.in-Row.offer) _ _ _ _ front) c.work_beside.ensures.moves);
       stays_rule = c.work_beside.ensures.stays_rule ∙ c.step.ensures.stays;
@@ -186,8 +142,8 @@ pub returns-in_err-give-in-Row-clause-stays_rule : goal.returns-in_err-give-in-R
 returns-in_err-give-in-Row-clause-stays_rule g c =
     c.work_beside.ensures.stays_rule ∙ c.step.ensures.stays
 
-pub returns-in-Ok : goal.returns-in-Ok
-returns-in-Ok g c =
+pub returns-in-Working : goal.returns-in-Working
+returns-in-Working g c =
     let shown = g.R.Reader.shown c.args.reader.now in
     let empty = not_some c.args.cursor.now.hand (sym c.is_some.ensures ∙ c.if-is_some.false) in
     let moves = rw c.in-Working.is at c.in_ok-offer.ensures.step in
@@ -201,28 +157,7 @@ returns-in-Ok g c =
       err = tt;
       given = c.work_beside-in-Working.ensures.hand ∙ empty;
       nearer = nearer_beside shown c.args.cursor.now c.step.new.self c.work_beside-in-Working.new.cursor empty moves c.work_beside-in-Working.ensures.hand c.work_beside-in-Working.ensures.work;
-      turn = turn_works _ c.args.beside _ _ _ _ _ _ _ empty c.step.ensures.stays refl front c.in-Ok.ensures.beside;
-      held = λ some. absurd (none_held _ some empty);
-      moves = moves_on _ _ _ _ _ _ _ c.step.ensures.stays refl (front_moves Working _ _ _ _ front) c.work_beside-in-Working.ensures.moves;
-      stays_rule = c.work_beside-in-Working.ensures.stays_rule ∙ c.step.ensures.stays;
-    }
-
-pub returns-in-Err : goal.returns-in-Err
-returns-in-Err g c =
-    let shown = g.R.Reader.shown c.args.reader.now in
-    let empty = not_some c.args.cursor.now.hand (sym c.is_some.ensures ∙ c.if-is_some.false) in
-    let moves = rw c.in-Working.is at c.in_ok-offer.ensures.step in
-    let kept = kept_stays shown c.args.cursor.now c.step.new.self empty c.requires.fits c.step.ensures.fits moves.asked moves.step in
-    let stays = stays_on shown _ _ _ kept c.work_beside-in-Working.ensures.stays in
-    let front = front_ok Working _ (seen_by shown c.args.cursor.now) _ _ _ _ c.args.cursor.now.plan c.step.new.self c.step.ensures.counts c.step.ensures.asks c.step.ensures.once moves (rw c.in-Working.is at c.in_ok-offer.ensures.spends) c.in_ok-offer.ensures.few in
-    record {
-      fits = stays.fits;
-      same = stays.same;
-      ok = tt;
-      err = stays.left;
-      given = tt;
-      nearer = tt;
-      turn = tt;
+      turn = turn_works _ c.args.beside _ _ _ _ _ _ _ empty c.step.ensures.stays refl front c.work_beside-in-Working.ensures.beside;
       held = λ some. absurd (none_held _ some empty);
       moves = moves_on _ _ _ _ _ _ _ c.step.ensures.stays refl (front_moves Working _ _ _ _ front) c.work_beside-in-Working.ensures.moves;
       stays_rule = c.work_beside-in-Working.ensures.stays_rule ∙ c.step.ensures.stays;

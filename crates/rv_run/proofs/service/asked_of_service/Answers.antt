@@ -1,4 +1,3 @@
-use Rattle.std.proofs.Common.{refl}
 use Rattle.rv_run.proofs.Served.{is_service, not_accepted, not_service}
 use Rattle.rv_run.proofs.service.asked_of_service.Goals as goal
 

@@ -1,10 +1,8 @@
-use Rattle.std.proofs.Common.{◌≡◌, ap, map, rules, subst, sym, OnOk}
+use Rattle.std.proofs.Common.{ap, map, rules, subst}
 use Rattle.std.proofs.lemmas.Result.{on_ok_weaker}
 use Rattle.rv_script.specs.Drafts.{said_by}
-use Rattle.rv_run.specs.Judges.{by_number}
 use Rattle.rv_run.specs.Making.{FitsSaying}
-use Rattle.rv_run.specs.Ruling.{between, judging}
-use Rattle.rv_run.specs.Serving.{Makes}
+use Rattle.rv_run.specs.Ruling.{judging}
 use Rattle.rv_run.proofs.Served.{makes_call, makes_next, makes_nothing, max_one}
 use Rattle.rv_run.proofs.service.make_saying.Goals as goal
 

@@ -1,4 +1,4 @@
-use Rattle.std.proofs.Common.{◌≡◌, ◌∙◌, None, Some, refl, sym, ap, map, subst}
+use Rattle.std.proofs.Common.{◌∙◌, refl, sym, ap, map, subst}
 use Rattle.rv_run.specs.declared.status.Status.TheVariants as statuses
 use Rattle.rv_run.specs.Judges.{by_number}
 use Rattle.rv_model.specs.Transcript.{text}

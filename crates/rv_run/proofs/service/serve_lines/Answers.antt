@@ -1,4 +1,4 @@
-use Rattle.std.proofs.Common.{◌≡◌, ◌≤◌, ◌<◌, ◌+◌, ◌∙◌, ℕ, List, [], false, refl, sym, ap, arith, length, map, rules, subst}
+use Rattle.std.proofs.Common.{◌≡◌, ◌≤◌, ◌<◌, ◌+◌, ◌∙◌, ℕ, List, [], false, refl, sym, arith, length, map, rules, subst}
 use Rattle.std.proofs.lemmas.List.{nil_from_length}
 use Rattle.rv_model.specs.Transcript.{text}
 use Rattle.rv_script.specs.Lines.{LineFault, behind_mark, first_line}

@@ -55,7 +55,7 @@ pub returns-in_err-retrieval-clause-lost : goal.returns-in_err-retrieval-clause-
 returns-in_err-retrieval-clause-lost g c = on_err _ _ (inl refl)
 
 pub returns-clause-ran : goal.returns-clause-ran
-returns-clause-ran g c = ran_out c.gathered_of-found.result _ _ _ (g.R.Reader.shown c.args.reader.now) c.args.steps.now c.open.new.steps c.gathered_of-found.new.steps c.args.query c.in_ok-retrieval.retrieval.value c.in_ok-retrieval.ensures.opened c.open.ensures.only (rw c.deref_mut.ensures.value at c.gathered_of-found.ensures.ran)
+returns-clause-ran g c = ran_out c.gathered_of-found.result _ _ _ (g.R.Reader.shown c.args.reader.now) c.args.steps.now c.open.new.steps c.gathered_of-found.new.steps c.args.query c.in_ok-retrieval.retrieval.value c.in_ok-retrieval.ensures.opened c.open.ensures.only c.open.ensures.unread c.in_ok-retrieval.ensures.counts (rw c.deref_mut.ensures.value at c.gathered_of-found.ensures.ran)
 
 pub returns-clause-lost : goal.returns-clause-lost
 returns-clause-lost g c = ran_lost c.gathered_of-found.result _ _ _ (g.R.Reader.shown c.args.reader.now) c.open.new.steps c.args.query c.in_ok-retrieval.retrieval.value c.in_ok-retrieval.ensures.opened (rw c.deref_mut.ensures.value at c.gathered_of-found.ensures.lost)

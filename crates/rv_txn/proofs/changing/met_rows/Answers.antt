@@ -10,7 +10,7 @@ lay_over-requires-clause-ascend g c = rw (c.as_slice.ensures.value ∙ c.in_ok-k
 pub lay_over-requires-clause-columns : goal.lay_over-requires-clause-columns
 lay_over-requires-clause-columns g c = changes_have c.args.only.now c.args.table ((g.S.Reader.shown c.args.store.now).columns c.args.table) c.args.transaction.now.changes c.requires.over c.requires.wide
 
-pub returns : goal.returns
-returns g c =
+pub returns-clause-met : goal.returns-clause-met
+returns-clause-met g c =
     let told = rw (c.as_slice.ensures.value ∙ c.in_ok-kept.ensures.kept) at c.in_ok-rows.ensures in
     told ∙ sym (kept_applied c.args.only.now c.args.table c.args.transaction.now.changes ((g.S.Reader.shown c.args.store.now).rows c.args.table c.args.transaction.now.base) c.in_ok-kept.ensures.ascend)

@@ -16,8 +16,8 @@ lay_over-requires-clause-columns g c =
     let none : c.from_groups-all.result ≡ [] = search rules in
     subst (λ (o : List (List Atom)). AllByRecursion (LeavesColumns c.args.table o) c.args.transaction.now.changes) (sym none) (all_leave c.args.table c.args.transaction.now.changes)
 
-pub returns : goal.returns
-returns g c =
+pub returns-clause-seen : goal.returns-clause-seen
+returns-clause-seen g c =
     let none : c.from_groups-all.result ≡ [] = search rules in
     let changes = c.args.transaction.now.changes in
     let rows = (g.S.Reader.shown c.args.store.now).rows c.args.table c.args.transaction.now.base in

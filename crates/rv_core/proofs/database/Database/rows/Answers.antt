@@ -19,4 +19,4 @@ returns-in-Some g c =
     let shown = g.S.Reader.shown c.self.inside.store in
     let there = rw (← c.self.view_is) at c.requires.there in
     let own = owns c.self.inside.txns.active c.args.session c.in-Some.own.now c.in-Some.ensures in
-    rw (← c.self.view_is) (IfOk-weaker c.viewed_rows.result _ _ (λ rows k. read_owned shown c.self.inside.catalog c.self.inside.txns (seen shown c.self.inside.cursors) c.args.session c.args.table c.in-Some.own.now rows.items there own k) c.viewed_rows.ensures)
+    rw (← c.self.view_is) (IfOk-weaker c.viewed_rows.result _ _ (λ rows k. read_owned shown c.self.inside.catalog c.self.inside.txns (seen shown c.self.inside.cursors) c.args.session c.args.table c.in-Some.own.now rows.items there own k) c.viewed_rows.ensures.seen)

@@ -21,7 +21,7 @@ unreachable-requires g c =
 pub returns-clause-does : goal.returns-clause-does
 returns-clause-does g c =
     let piece = rw c.in-Piece.is at c.in_ok-piece.ensures.taken in
-    one_piece (right_of c.give_piece.ensures.stays) _ _ c.args.self.now c.take_piece.new.self c.give_piece.new.self (g.R.Reader.shown c.args.reader.now) c.in-Piece.piece c.sieve.result c.in_ok-_given-in-Piece._given c.args.steps.now c.take_piece.new.steps c.requires.control c.take_piece.ensures.leaves piece c.sieve.ensures c.in_ok-_given-in-Piece.ensures.given c.in_ok-_given-in-Piece.ensures.obeys c.take_piece.ensures.reads
+    one_piece (right_of c.give_piece.ensures.stays) _ _ c.args.self.now c.take_piece.new.self c.give_piece.new.self (g.R.Reader.shown c.args.reader.now) c.in-Piece.piece c.sieve.result c.in_ok-_given-in-Piece._given c.args.steps.now c.take_piece.new.steps c.requires.control c.take_piece.ensures.leaves piece c.sieve.ensures c.in_ok-_given-in-Piece.ensures.given c.in_ok-_given-in-Piece.ensures.obeys c.take_piece.ensures.reads c.take_piece.ensures.fits
 
 pub returns-clause-steady : goal.returns-clause-steady
 returns-clause-steady g c =

@@ -13,7 +13,7 @@ use Rattle.rv_race.proofs.Stepped.{only_at_keys, reads_at}
 use Rattle.rv_race.proofs.race.Race.list_step.Goals as goal
 
 pub returns-in-Found-clause-does : goal.returns-in-Found-clause-does
-returns-in-Found-clause-does g c rules stands = list_does rules stands c.args.self.now c.scan_list.new.self (g.R.Reader.shown c.args.reader.now) c.args.steps.now c.scan_list.new.steps (Found c.in-Found.row) c.requires.control (rw c.in-Found.is at c.in_ok-row.ensures.fetches) c.scan_list.ensures.same
+returns-in-Found-clause-does g c rules stands = list_does rules stands c.args.self.now c.scan_list.new.self (g.R.Reader.shown c.args.reader.now) c.args.steps.now c.scan_list.new.steps (Found c.in-Found.row) c.requires.control (rw c.in-Found.is at c.in_ok-row.ensures.fetches) c.scan_list.ensures.same (rw c.in-Found.is at c.in_ok-row.ensures.falls)
 
 pub returns-in-Found-clause-steady : goal.returns-in-Found-clause-steady
 returns-in-Found-clause-steady g c = list_steady c.args.self.now c.scan_list.new.self (g.R.Reader.shown c.args.reader.now) c.requires.control c.scan_list.ensures.same c.requires.fits
@@ -31,7 +31,7 @@ pub returns-in-Found-clause-may_read : goal.returns-in-Found-clause-may_read
 returns-in-Found-clause-may_read g c = reads_at c.args.self.now FinalList c.args.steps.now c.scan_list.new.steps c.requires.control c.scan_list.ensures.may_read
 
 pub returns-in-Working-clause-does : goal.returns-in-Working-clause-does
-returns-in-Working-clause-does g c rules stands = list_does rules stands c.args.self.now c.scan_list.new.self (g.R.Reader.shown c.args.reader.now) c.args.steps.now c.scan_list.new.steps Working c.requires.control (rw c.in-Working.is at c.in_ok-row.ensures.fetches) c.scan_list.ensures.same
+returns-in-Working-clause-does g c rules stands = list_does rules stands c.args.self.now c.scan_list.new.self (g.R.Reader.shown c.args.reader.now) c.args.steps.now c.scan_list.new.steps Working c.requires.control (rw c.in-Working.is at c.in_ok-row.ensures.fetches) c.scan_list.ensures.same (rw c.in-Working.is at c.in_ok-row.ensures.falls)
 
 pub returns-in-Working-clause-steady : goal.returns-in-Working-clause-steady
 returns-in-Working-clause-steady g c = list_steady c.args.self.now c.scan_list.new.self (g.R.Reader.shown c.args.reader.now) c.requires.control c.scan_list.ensures.same c.requires.fits
@@ -49,7 +49,7 @@ pub returns-in-Working-clause-may_read : goal.returns-in-Working-clause-may_read
 returns-in-Working-clause-may_read g c = reads_at c.args.self.now FinalList c.args.steps.now c.scan_list.new.steps c.requires.control c.scan_list.ensures.may_read
 
 pub returns-in-End-clause-does : goal.returns-in-End-clause-does
-returns-in-End-clause-does g c rules stands = list_does rules stands c.args.self.now c.go.new.self (g.R.Reader.shown c.args.reader.now) c.args.steps.now c.scan_list.new.steps End c.requires.control (rw c.in-End.is at c.in_ok-row.ensures.fetches) (put_then (λ (x : Raced). x.at) (λ (i : ℕ). record c.args.self.now { at = i }) (gone FinalEnded) c.scan_list.new.self c.go.new.self refl c.scan_list.ensures.same c.go.ensures)
+returns-in-End-clause-does g c rules stands = list_does rules stands c.args.self.now c.go.new.self (g.R.Reader.shown c.args.reader.now) c.args.steps.now c.scan_list.new.steps End c.requires.control (rw c.in-End.is at c.in_ok-row.ensures.fetches) (put_then (λ (x : Raced). x.at) (λ (i : ℕ). record c.args.self.now { at = i }) (gone FinalEnded) c.scan_list.new.self c.go.new.self refl c.scan_list.ensures.same c.go.ensures) (rw c.in-End.is at c.in_ok-row.ensures.falls)
 
 pub returns-in-End-clause-steady : goal.returns-in-End-clause-steady
 returns-in-End-clause-steady g c =

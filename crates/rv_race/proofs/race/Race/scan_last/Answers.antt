@@ -1,6 +1,6 @@
 use Rattle.std.proofs.Common.{◌≡◌, ◌∙◌, ℕ, IfOk, List, None, OnErr, ap, refl, subst, sym}
 use Rattle.rv_value.specs.declared.record.Record.{Record}
-use Rattle.rv_scan.specs.Places.{Fits as PlaceFits, work}
+use Rattle.rv_scan.specs.Places.{Fits as PlaceFits, PageTurns, work}
 use Rattle.rv_final.specs.Rest.{StepMarks}
 use Rattle.rv_final.specs.Stage.{Staged, own_pages, own_rows, table_left}
 use Rattle.rv_final.specs.Work.{Falls, Tries}
@@ -65,3 +65,11 @@ returns-clause-falls g c =
     let rows = subst (λ (rs : List Record). IfOk c.table_step.result (λ s. Falls s before after (work r.last rs (own_pages r.last shown)) (work last rs (own_pages r.last shown)))) (rows_same r.table r.snap r.last shown c.requires.fits.last) own in
     let pages = subst (λ (n : ℕ). IfOk c.table_step.result (λ s. Falls s before after (work r.last (rows_of r shown) n) (work last (rows_of r shown) n))) (pages_same r.table r.snap r.last shown c.requires.fits.last) rows in
     subst (λ (x : Raced). IfOk c.table_step.result (λ s. Falls s before after (table_work r shown) (table_work (record x { last = last }) shown))) (sym c.self.view_is) pages
+
+pub returns-clause-turns : goal.returns-clause-turns
+returns-clause-turns g c =
+    let shown = g.R.Reader.shown c.args.reader.now in
+    let r = c.args.self.now in
+    let last = c.table_step.new.self.last in
+    let own = subst (λ (x : Raced). IfOk c.table_step.result (λ s. PageTurns s x.last last (own_pages x.last shown))) c.self.view_is c.table_step.ensures.turns in
+    subst (λ (n : ℕ). IfOk c.table_step.result (λ s. PageTurns s r.last last n)) (pages_same r.table r.snap r.last shown c.requires.fits.last) own

@@ -15,7 +15,7 @@ use Rattle.rv_race.proofs.Stepped.{only_itself, reads_at}
 use Rattle.rv_race.proofs.race.Race.table_step.Goals as goal
 
 pub returns-in-Found-clause-does : goal.returns-in-Found-clause-does
-returns-in-Found-clause-does g c rules stands = table_does rules stands c.args.self.now c.scan_last.new.self (g.R.Reader.shown c.args.reader.now) c.args.steps.now c.scan_last.new.steps (Found c.in-Found.found) c.requires.control (rw c.in-Found.is at c.in_ok-found.ensures.reads) c.scan_last.ensures.same
+returns-in-Found-clause-does g c rules stands = table_does rules stands c.args.self.now c.scan_last.new.self (g.R.Reader.shown c.args.reader.now) c.args.steps.now c.scan_last.new.steps (Found c.in-Found.found) c.requires.control (rw c.in-Found.is at c.in_ok-found.ensures.reads) c.scan_last.ensures.same (rw c.in-Found.is at c.in_ok-found.ensures.turns)
 
 pub returns-in-Found-clause-steady : goal.returns-in-Found-clause-steady
 returns-in-Found-clause-steady g c = table_steady c.args.self.now c.scan_last.new.self (g.R.Reader.shown c.args.reader.now) c.requires.control c.scan_last.ensures.same c.scan_last.ensures.last c.requires.fits
@@ -33,7 +33,7 @@ pub returns-in-Found-clause-may_read : goal.returns-in-Found-clause-may_read
 returns-in-Found-clause-may_read g c = reads_at c.args.self.now FinalTable c.args.steps.now c.scan_last.new.steps c.requires.control c.scan_last.ensures.may_read
 
 pub returns-in-Working-clause-does : goal.returns-in-Working-clause-does
-returns-in-Working-clause-does g c rules stands = table_does rules stands c.args.self.now c.scan_last.new.self (g.R.Reader.shown c.args.reader.now) c.args.steps.now c.scan_last.new.steps Working c.requires.control (rw c.in-Working.is at c.in_ok-found.ensures.reads) c.scan_last.ensures.same
+returns-in-Working-clause-does g c rules stands = table_does rules stands c.args.self.now c.scan_last.new.self (g.R.Reader.shown c.args.reader.now) c.args.steps.now c.scan_last.new.steps Working c.requires.control (rw c.in-Working.is at c.in_ok-found.ensures.reads) c.scan_last.ensures.same (rw c.in-Working.is at c.in_ok-found.ensures.turns)
 
 pub returns-in-Working-clause-steady : goal.returns-in-Working-clause-steady
 returns-in-Working-clause-steady g c = table_steady c.args.self.now c.scan_last.new.self (g.R.Reader.shown c.args.reader.now) c.requires.control c.scan_last.ensures.same c.scan_last.ensures.last c.requires.fits
@@ -51,7 +51,7 @@ pub returns-in-Working-clause-may_read : goal.returns-in-Working-clause-may_read
 returns-in-Working-clause-may_read g c = reads_at c.args.self.now FinalTable c.args.steps.now c.scan_last.new.steps c.requires.control c.scan_last.ensures.may_read
 
 pub returns-in-End-clause-does : goal.returns-in-End-clause-does
-returns-in-End-clause-does g c rules stands = table_does rules stands c.args.self.now c.go.new.self (g.R.Reader.shown c.args.reader.now) c.args.steps.now c.scan_last.new.steps End c.requires.control (rw c.in-End.is at c.in_ok-found.ensures.reads) (put_then (λ (x : Raced). x.last) (λ (p : Place). record c.args.self.now { last = p }) (gone FinalEnded) c.scan_last.new.self c.go.new.self refl c.scan_last.ensures.same c.go.ensures)
+returns-in-End-clause-does g c rules stands = table_does rules stands c.args.self.now c.go.new.self (g.R.Reader.shown c.args.reader.now) c.args.steps.now c.scan_last.new.steps End c.requires.control (rw c.in-End.is at c.in_ok-found.ensures.reads) (put_then (λ (x : Raced). x.last) (λ (p : Place). record c.args.self.now { last = p }) (gone FinalEnded) c.scan_last.new.self c.go.new.self refl c.scan_last.ensures.same c.go.ensures) (ap (λ (x : Raced). x.last.next) c.go.ensures ∙ (rw c.in-End.is at c.in_ok-found.ensures.turns))
 
 pub returns-in-End-clause-steady : goal.returns-in-End-clause-steady
 returns-in-End-clause-steady g c =

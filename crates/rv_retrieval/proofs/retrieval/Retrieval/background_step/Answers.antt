@@ -1,6 +1,6 @@
 use Rattle.std.proofs.Common.{◌∙◌, ap, refl, rules, subst, sym, lt_of_lt_of_le}
 use Rattle.rv_value.proofs.Lists.{on_err}
-use Rattle.rv_retrieval.proofs.Stepped.{as_it_is, one_piece}
+use Rattle.rv_retrieval.proofs.Stepped.{as_it_is, one_piece, taken_short}
 use Rattle.rv_retrieval.specs.Shape.{is_background}
 use Rattle.rv_retrieval.proofs.Efforts.{give_awaits, give_less}
 use Rattle.rv_retrieval.proofs.Openings.{gave_less, nothing_awaited, tries_to}
@@ -13,7 +13,7 @@ pub returns-in_ok-_given-in-Piece-clause-does : goal.returns-in_ok-_given-in-Pie
 returns-in_ok-_given-in-Piece-clause-does g c =
     let v = c.args.self.now in
     let piece = rw c.in-Piece.is at c.in_ok-piece.ensures.taken in
-    (refl, as_it_is _ _ _ v c.give_piece.new.self (one_piece _ _ _ v c.take_piece.new.self c.give_piece.new.self c.in-Piece.piece c.sieve.result c.in_ok-_given-in-Piece._given c.take_piece.ensures.same c.take_piece.ensures.leaves piece c.sieve.ensures c.in_ok-_given-in-Piece.ensures.given c.in_ok-_given-in-Piece.ensures.obeys))
+    (refl, as_it_is _ _ _ v c.give_piece.new.self (one_piece _ _ _ v c.take_piece.new.self c.give_piece.new.self c.in-Piece.piece c.sieve.result c.in_ok-_given-in-Piece._given c.take_piece.ensures.same c.take_piece.ensures.leaves piece c.sieve.ensures (taken_short c.take_piece.new.self.joint.held c.take_piece.new.self.joint (g.R.Reader.shown c.args.reader.now) c.in-Piece.piece.entries piece.awaits.entries c.take_piece.ensures.fits.joint.drawn) c.in_ok-_given-in-Piece.ensures.given c.in_ok-_given-in-Piece.ensures.obeys))
 
 pub returns-in_ok-_given-in-Piece-clause-tries : goal.returns-in_ok-_given-in-Piece-clause-tries
 returns-in_ok-_given-in-Piece-clause-tries g c =

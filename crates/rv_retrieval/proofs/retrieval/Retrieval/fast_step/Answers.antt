@@ -37,7 +37,7 @@ pub returns-in-None-clause-does : goal.returns-in-None-clause-does
 returns-in-None-clause-does g c way =
     let v = c.args.self.now in
     let mid = c.fresh_key.new.self in
-    fast_behind c.background_step.result _ _ _ (g.R.Reader.shown c.args.reader.now) c.args.steps.now c.background_step.new.steps v mid c.background_step.new.self c.requires.control c.requires.strategy c.fresh_key.ensures.same (c.fresh_key.ensures.passes way) (c.in-None.ensures.first way) c.background_step.ensures.does
+    fast_behind c.background_step.result _ _ _ (g.R.Reader.shown c.args.reader.now) c.args.steps.now c.background_step.new.steps v mid c.background_step.new.self c.requires.control c.requires.strategy c.fresh_key.ensures.same c.fresh_key.ensures.further (c.fresh_key.ensures.passes way) (c.in-None.ensures.first way) c.background_step.ensures.does
 
 pub returns-in-None-clause-steady : goal.returns-in-None-clause-steady
 returns-in-None-clause-steady g c = steady_borrowed c.args.self.now c.fresh_key.new.self c.background_step.new.self c.fresh_key.ensures.same c.background_step.ensures.steady
@@ -76,7 +76,7 @@ pub returns-in-None-clause-falls : goal.returns-in-None-clause-falls
 returns-in-None-clause-falls g c a = falls_from c.background_step.result _ _ _ _ _ (passed_effort c.args.self.now c.fresh_key.new.self (g.R.Reader.shown c.args.reader.now) c.requires.control c.fresh_key.ensures.same c.fresh_key.ensures.fewer) (c.background_step.ensures.falls (ap (λ (x : Shape). is_background x.control) c.fresh_key.ensures.same ∙ ap is_background c.requires.control) (subst Awaiting (sym c.fresh_key.ensures.same) (record { way = a.way; both = a.both })))
 
 pub returns-in-None-clause-still : goal.returns-in-None-clause-still
-returns-in-None-clause-still g c = after_borrowed c.background_step.result c.args.self.now c.fresh_key.new.self c.background_step.new.self c.fresh_key.ensures.same (λ way. fresh_passed c.args.self.now c.fresh_key.new.self c.fresh_key.ensures.same (c.fresh_key.ensures.passes way)) c.background_step.ensures.still
+returns-in-None-clause-still g c = after_borrowed c.background_step.result c.args.self.now c.fresh_key.new.self c.background_step.new.self c.fresh_key.ensures.same (λ way. fresh_passed c.args.self.now c.fresh_key.new.self c.fresh_key.ensures.same (c.fresh_key.ensures.passes way)) c.fresh_key.ensures.further c.background_step.ensures.still
 
 pub returns-in-None-clause-course : goal.returns-in-None-clause-course
 returns-in-None-clause-course g c = passed_course c.background_step.result c.args.self.now c.fresh_key.new.self c.background_step.new.self c.fresh_key.ensures.same c.background_step.ensures.course
@@ -94,7 +94,7 @@ pub returns-in-Some-clause-falls : goal.returns-in-Some-clause-falls
 returns-in-Some-clause-falls g c a = falls_from c.borrow.result _ _ _ _ _ (passed_effort c.args.self.now c.fresh_key.new.self (g.R.Reader.shown c.args.reader.now) c.requires.control c.fresh_key.ensures.same c.fresh_key.ensures.fewer) (c.borrow.ensures.falls c.in-Some.ensures.near)
 
 pub returns-in-Some-clause-still : goal.returns-in-Some-clause-still
-returns-in-Some-clause-still g c = after_borrowed c.borrow.result c.args.self.now c.fresh_key.new.self c.borrow.new.self c.fresh_key.ensures.same (λ way. fresh_passed c.args.self.now c.fresh_key.new.self c.fresh_key.ensures.same (c.fresh_key.ensures.passes way)) (only_if c.borrow.result c.fresh_key.new.self c.borrow.new.self c.borrow.ensures.err)
+returns-in-Some-clause-still g c = after_borrowed c.borrow.result c.args.self.now c.fresh_key.new.self c.borrow.new.self c.fresh_key.ensures.same (λ way. fresh_passed c.args.self.now c.fresh_key.new.self c.fresh_key.ensures.same (c.fresh_key.ensures.passes way)) c.fresh_key.ensures.further (only_if c.borrow.result c.fresh_key.new.self c.borrow.new.self c.borrow.ensures.err)
 
 pub returns-in-Some-clause-course : goal.returns-in-Some-clause-course
 returns-in-Some-clause-course g c = passed_course c.borrow.result c.args.self.now c.fresh_key.new.self c.borrow.new.self c.fresh_key.ensures.same (course_if c.borrow.result c.fresh_key.new.self c.borrow.new.self c.borrow.ensures.err)
@@ -109,4 +109,4 @@ pub returns-in-Some-clause-reads : goal.returns-in-Some-clause-reads
 returns-in-Some-clause-reads g c way = reads_always c.borrow.result (Borrow c.in-Some.row.0) c.args.self.now c.args.steps.now c.borrow.new.steps (fast_kind c.args.self.now c.requires.control c.requires.strategy ∙ ap (while_both FastFirst) (c.in-Some.ensures.first way)) (λ s. c.borrow.ensures.reads)
 
 pub returns-in-Some-clause-does : goal.returns-in-Some-clause-does
-returns-in-Some-clause-does g c way = borrow_does c.borrow.result _ _ (g.R.Reader.shown c.args.reader.now) c.args.steps.now c.borrow.new.steps c.args.self.now c.fresh_key.new.self c.borrow.new.self c.in-Some.row.0 (fast_kind c.args.self.now c.requires.control c.requires.strategy ∙ ap (while_both FastFirst) (c.in-Some.ensures.first way)) c.fresh_key.ensures.same c.borrow.ensures.does
+returns-in-Some-clause-does g c way = borrow_does c.borrow.result _ _ (g.R.Reader.shown c.args.reader.now) c.args.steps.now c.borrow.new.steps c.args.self.now c.fresh_key.new.self c.borrow.new.self c.in-Some.row.0 (fast_kind c.args.self.now c.requires.control c.requires.strategy ∙ ap (while_both FastFirst) (c.in-Some.ensures.first way)) c.fresh_key.ensures.same c.fresh_key.ensures.further c.borrow.ensures.does

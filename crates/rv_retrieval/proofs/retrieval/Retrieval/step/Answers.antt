@@ -7,7 +7,7 @@ use Rattle.rv_retrieval.specs.Stepping.{NextKey, NextPage, Piece, Walk}
 use Rattle.rv_retrieval.proofs.OfKinds.{course_if, does_by, key_does, kind_at, may_read_by, page_does, reads_always, reads_as, reads_by, rest_if, walk_does}
 use Rattle.rv_retrieval.proofs.Waiting.{keys_only, only_if, steady_at}
 use Rattle.rv_retrieval.proofs.Controls.{done_rest, passed_rest}
-use Rattle.rv_retrieval.proofs.Listed.{at_course, at_settled, keys_fit, keys_try, list_control, list_does, list_ended_by, list_ends, list_falls, list_fits, list_records, list_settled, list_steady, list_tries, not_done}
+use Rattle.rv_retrieval.proofs.Listed.{at_course, at_settled, keys_fit, keys_try, list_control, list_does, list_ended_by, list_ends, list_falls, list_fits, list_keys, list_records, list_settled, list_steady, list_tries, not_done}
 use Rattle.rv_retrieval.proofs.retrieval.Retrieval.step.Goals as goal
 
 pub returns-in-Done-clause-step : goal.returns-in-Done-clause-step
@@ -181,7 +181,7 @@ returns-in-Ok-clause-again g c done =
 
 pub returns-in-Ok-clause-does : goal.returns-in-Ok-clause-does
 returns-in-Ok-clause-does g c way =
-    key_does _ _ (g.R.Reader.shown c.args.reader.now) c.args.steps.now c.scan_list.new.steps c.in-Ok.scanned c.args.self.now c.finish.new.self (kind_at c.args.self.now.control FinalList c.args.self.now.strategy (fresh_of c.args.self.now) (sym c.control.ensures ∙ c.in-FinalList.is)) c.in-Ok.ensures.fetches (list_ended_by c.args.self.now c.scan_list.new.self c.finish.new.self c.in-Ok.scanned c.scan_list.ensures.same c.finish.ensures)
+    key_does _ _ (g.R.Reader.shown c.args.reader.now) c.args.steps.now c.scan_list.new.steps c.in-Ok.scanned c.args.self.now c.finish.new.self (kind_at c.args.self.now.control FinalList c.args.self.now.strategy (fresh_of c.args.self.now) (sym c.control.ensures ∙ c.in-FinalList.is)) c.in-Ok.ensures.fetches (list_ended_by c.args.self.now c.scan_list.new.self c.finish.new.self c.in-Ok.scanned c.scan_list.ensures.same c.finish.ensures) (list_keys c.args.self.now c.scan_list.new.self c.finish.new.self c.in-Ok.scanned c.args.steps.now c.scan_list.new.steps c.finish.ensures c.in-Ok.ensures.falls)
 
 pub returns-in-Ok-clause-may_read : goal.returns-in-Ok-clause-may_read
 returns-in-Ok-clause-may_read g c way =
@@ -323,7 +323,7 @@ pub returns-in-FinalTable-clause-falls : goal.returns-in-FinalTable-clause-falls
 returns-in-FinalTable-clause-falls g c a = c.table_step.ensures.falls
 
 pub returns-in-FinalTable-clause-does : goal.returns-in-FinalTable-clause-does
-returns-in-FinalTable-clause-does g c way = page_does c.table_step.result _ _ (g.R.Reader.shown c.args.reader.now) c.args.steps.now c.table_step.new.steps c.args.self.now c.table_step.new.self (kind_at c.args.self.now.control FinalTable c.args.self.now.strategy (fresh_of c.args.self.now) (sym c.control.ensures ∙ c.in-FinalTable.is)) c.table_step.ensures.does
+returns-in-FinalTable-clause-does g c way = page_does c.table_step.result _ _ (g.R.Reader.shown c.args.reader.now) c.args.steps.now c.table_step.new.steps c.args.self.now c.table_step.new.self (kind_at c.args.self.now.control FinalTable c.args.self.now.strategy (fresh_of c.args.self.now) (sym c.control.ensures ∙ c.in-FinalTable.is)) c.table_step.ensures.does c.table_step.ensures.turns
 
 pub returns-in-FinalTable-clause-may_read : goal.returns-in-FinalTable-clause-may_read
 returns-in-FinalTable-clause-may_read g c way = may_read_by NextPage c.args.self.now c.args.steps.now c.table_step.new.steps (kind_at c.args.self.now.control FinalTable c.args.self.now.strategy (fresh_of c.args.self.now) (sym c.control.ensures ∙ c.in-FinalTable.is)) c.table_step.ensures.may_read
