@@ -343,11 +343,11 @@ class Edges:
             ("CREATE TABLE W (A BIGINT", ", B BIGINT", ")"), (f"CREATE INDEX W ON {name} (A0", ", A0", ")"),
             (f"CREATE UNIQUE INDEX W ON {name} (A0", ", A0", ")"), (f"INSERT INTO {name} VALUES (1", ", NULL", ")"), (f"UPDATE {name} SET A0 = 1", ", A0 = 1", ""),
             (f"DELETE FROM {name} WHERE A0 IN (1", ", 1", ")"), (f"OPEN C SELECT A0 FROM {name} WHERE A0 = 1", " OR A0 = 1", ""),
-            (f"OPEN C SELECT A0 FROM {name} WHERE A0 = 1", " AND A0 = 1", ""), (f"OPEN C SELECT A0", ", A0", f" FROM {name}"),
+            (f"OPEN C SELECT A0 FROM {name} WHERE A0 = 1", " AND A0 = 1", ""), ("OPEN C SELECT A0", ", A0", f" FROM {name}"),
             (f"OPEN C SELECT * FROM {name}", f", {name}", ""), (f"OPEN C SELECT * FROM {name} ORDER BY A0", ", A0", ""),
             ("", "(", ""), ("", "'", ""), ("", ";", ""), ("", "<", ""), ("FETCH C", " ", ""), ("COMMIT", ";", ""), ("FETCH ", "C", ""),
             ("STEP C ", "0", "1"), ("", "A.", "A"), ("", "-", "1"), (f"INSERT INTO {name} VALUES (1, '", "''", "')"), ("BEGIN", "\t", ""),
-            (f"OPEN C SELECT * FROM {name} WHERE (A0 = 1", " OR A0 IN (1, 2, 3)", f") AND (A0 = 1 OR A0 > 2)"), ("", "é", ""),
+            (f"OPEN C SELECT * FROM {name} WHERE (A0 = 1", " OR A0 IN (1, 2, 3)", ") AND (A0 = 1 OR A0 > 2)"), ("", "é", ""),
         ]  # fmt: skip
         yield "BEGIN"
         for head, part, tail in self.rng.sample(shapes, 6):

@@ -135,10 +135,19 @@ class Database:
         self.write("--" if judge is None else f"-- {judge}")
 
 
+def takes_names(program: str) -> bool:
+    """Whether a program takes a judge by its name: ./rvdyn does, and an installed one, which are scripts and pick the built program that
+    has it. A built one takes its number."""
+    with Path(program).open("rb") as file:
+        return file.read(2) == b"#!"
+
+
 def open(judge: int | str = 0, steps: int = 1, race: bool = False, program: str | None = None, model: bool = False) -> Database:
     """A new database: over ./rvdyn, or a built program, or the slow model, which needs no kit. What else can be asked is as on the command
     line."""
     command = [program] if program else [str(TOP / "rvdyn")]
     if model:
         command = [sys.executable, str(TOP / "tools" / "slow_program.py")]
+    elif program and not str(judge).isdigit() and not takes_names(program):
+        raise ValueError(f"{program} takes a judge by its number: ./rvdyn has one by the name {judge!r}, in the program that it picks")
     return Database([*command, "--line", "--judge", str(judge), "--steps", str(steps), *["--race"] * race])

@@ -272,7 +272,7 @@ def main() -> int:
     parser = argparse.ArgumentParser(description=__doc__, formatter_class=argparse.RawDescriptionHelpFormatter)
     add_run_options(parser)
     parser.add_argument("--model", action="store_true", help="the slow model answers (so it does with --plain)")
-    parser.add_argument("--program", metavar="PROGRAM", help="this built program answers, in place of ./rvdyn")
+    parser.add_argument("--program", metavar="PROGRAM", help="this built program answers, in place of ./rvdyn, and has judges by their numbers alone")
     words = parser.parse_args()
 
     def start() -> Engine:
@@ -280,7 +280,10 @@ def main() -> int:
             return Model(words.judge, words.steps, words.plain, words.race)
         return Program(words.judge, words.steps, words.race, words.program)
 
-    shell = Shell(start, sys.stdout)
+    try:
+        shell = Shell(start, sys.stdout)
+    except ValueError as fault:
+        parser.error(str(fault))
     try:
         for line in typed(shell) if sys.stdin.isatty() else piped():
             shell.line(line)

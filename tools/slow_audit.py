@@ -148,7 +148,7 @@ def verdict(data):
 def changed(rng, data):
     """The data with a byte or a line changed."""
     if rng.random() < 0.5:
-        at, cut = rng.randrange(len(data) or 1), lambda i: data[i : i + 1]
+        at = rng.randrange(len(data) or 1)
         ends = at + 1
     else:
         starts = [0] + [m.end() for m in re.finditer(b"\n", data)]

@@ -62,6 +62,18 @@ class Databases(unittest.TestCase):
             with rvdyn.open(program=str(program)) as db, self.assertRaisesRegex(rvdyn.Ended, "status 4"):
                 db.call("BEGIN")
 
+    def test_a_judge_by_its_name(self):
+        with tempfile.TemporaryDirectory() as folder:
+            program = Path(folder, "program")
+            program.write_bytes(b"\x7fELF")
+            program.chmod(0o755)
+            with self.assertRaisesRegex(ValueError, "takes a judge by its number: .* 'bounded'"):
+                rvdyn.open("bounded", program=str(program))
+            # a script picks the program by the name
+            program.write_text('#!/bin/sh\necho "$@" >&2\nexit 4\n', encoding="utf-8")
+            with rvdyn.open("bounded", program=str(program)) as db, self.assertRaisesRegex(rvdyn.Ended, "status 4: --line --judge bounded --steps 1$"):
+                db.call("BEGIN")
+
 
 class Example(unittest.TestCase):
     def test_phone_book(self):

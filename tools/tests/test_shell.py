@@ -80,6 +80,14 @@ class Shells(unittest.TestCase):
         lines = [line for line in ran.stdout.decode().splitlines() if line and not line.startswith(("#", "--"))]
         self.assertEqual(lines, (TOP / "examples/conflicts.transcript").read_text(encoding="utf-8").splitlines())
 
+    def test_a_built_program_has_judges_by_numbers(self):
+        with tempfile.TemporaryDirectory() as folder:
+            program = Path(folder, "program")
+            program.write_bytes(b"\x7fELF")
+            ran = subprocess.run([sys.executable, TOP / "tools/shell.py", "--program", program, "--judge", "bounded"], input=b"", capture_output=True, check=False)
+        self.assertEqual((ran.returncode, ran.stdout), (2, b""))
+        self.assertTrue(ran.stderr.decode().endswith(f"error: {program} takes a judge by its number: ./rvdyn has one by the name 'bounded', in the program that it picks\n"))
+
 
 if __name__ == "__main__":
     unittest.main()

@@ -9,10 +9,12 @@ pub mod Costs
 pub mod StepCosts
 pub mod WholeLaws
 pub mod Searches
+pub mod Changes
 pub mod Loans
 pub mod Fast
 pub mod FastSteps
 pub mod FastLaws
+pub mod OnePlan
 pub mod PlanLaws
 pub mod RaceAhead
 pub mod RaceLaws
@@ -21,3 +23,6 @@ pub mod Stages
 pub mod RaceSound
 pub mod RaceCosts
 pub mod UnionCosts
+pub mod RacedPlans
+pub mod UnitedPlans
+pub mod CursorLaws

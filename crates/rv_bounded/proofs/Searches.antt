@@ -1,5 +1,8 @@
 -- What a search reads to its end, from its opening on.
-use Rattle.std.proofs.Common.{◌≡◌, ℕ, ◌+◌, ◌-◌, ◌*◌, ◌^◌, ◌<◌, ◌≤◌, List, [], ◌∷◌, length, min, refl, sym, subst, arith}
+use Rattle.std.proofs.Common.{◌≡◌, ℕ, ◌+◌, ◌-◌, ◌*◌, ◌^◌, ◌<◌, ◌≤◌, List, [], ◌∷◌, length, map, filter, min, refl, sym, subst, arith}
+use Rattle.std.proofs.lemmas.List.{length-map}
+use Rattle.std.proofs.lemmas.List.Sorted.{length_permutation}
+use Rattle.rv_value.proofs.Lists.{filter_length}
 use Rattle.rv_judge.specs.declared.counting.Counts.{Counts}
 use Rattle.rv_judge.specs.declared.events.Strategy.TheVariants.{BackgroundOnly}
 use Rattle.rv_judge.specs.declared.judging.Facts.{Facts}
@@ -7,11 +10,12 @@ use Rattle.rv_judge.specs.Tracing.{CountsAll}
 use Rattle.rv_judge.specs.Verdicts.{Ruling}
 use Rattle.rv_reader.specs.Shown.{Shown}
 use Rattle.rv_choice.specs.declared.query.Query.{Query}
-use Rattle.rv_choice.specs.Choice.{candidates_of}
+use Rattle.rv_choice.specs.Choice.{AreScans, candidate_of, candidates_of, is_scanned, plan_of}
+use Rattle.rv_choice.specs.declared.choosing.Background.{Background}
+use Rattle.rv_jscan.specs.declared.jscan.ScanPlan.{ScanPlan}
 use Rattle.rv_retrieval.specs.declared.steps.Fg.{Fg}
 use Rattle.rv_retrieval.specs.declared.steps.Fg.TheVariants.{End}
 use Rattle.rv_retrieval.specs.Shape.{Shape}
-use Rattle.rv_retrieval.proofs.Chosen.{few_scans}
 use Rattle.rv_search.specs.Searching.{Searched, StepsAll, searched}
 use Rattle.skew_judges.specs.Guard.{IsBounded}
 use Rattle.rv_bounded.specs.Bounds.{SearchesAreBounded}
@@ -95,16 +99,25 @@ unread_of v c d same told =
       fetches = none_risen v.trace.fetches c.records greatest own.fetches;
     }
 
+-- each scan is of one of the indexes
+few_scans : (query : Query) (shown : Shown) (background : Background) (scans : List ScanPlan) → AreScans query.only (candidates_of query shown) background scans → length query.indexes ≤ 8 → length scans ≤ 8
+few_scans query shown background scans s few =
+    let cs = candidates_of query shown in
+    few_sum (length scans) (length (map (plan_of query.only) (filter (is_scanned background) cs))) (length (filter (is_scanned background) cs)) (length cs) (length query.indexes) (sym (length_permutation (map (plan_of query.only) (filter (is_scanned background) cs)) scans s.these)) (length-map (filter (is_scanned background) cs) (plan_of query.only)) (filter_length (is_scanned background) cs) (length-map query.indexes (candidate_of query shown)) few
+  where
+    few_sum : (scans planned passed all indexes : ℕ) → planned ≡ scans → planned ≡ passed → passed ≤ all → all ≡ indexes → indexes ≤ 8 → scans ≤ 8
+    few_sum scans planned passed all indexes a b c d e = omega (arith, a, b, c, d, e)
+
 pub searches_bounded : SearchesAreBounded
-searches_bounded would state after shown before behind query ran rule can long alone few =
+searches_bounded would state after shown before behind query ran rule few long alone less =
     let p = shown.pages query.table query.snap in
     let v = ran.begun in
     let planned = length v.joint.plans in
-    let opens : Alone BackgroundOnly query shown v = record { cursor = 0; opening = 0; opened = ran.opened; alone = alone; long = long; room = few_scans query shown ran.opened.choice.background v.joint.plans (candidates_of query shown) refl can ran.opened.made.scans } in
-    let small = small_all p planned greatest few opens.room refl in
+    let opens : Alone BackgroundOnly query shown v = record { cursor = 0; opening = 0; opened = ran.opened; alone = alone; long = long; room = few_scans query shown ran.opened.choice.background v.joint.plans ran.opened.made.scans few } in
+    let small = small_all p planned greatest less opens.room refl in
     let none = unread_of v before ran.counts (ran.unread long) ran.told in
     let left = opened_ahead query shown v p opens in
     let rest = rest_back p v (opened_back query shown v opens) in
     let made = subst (λ (c : Counts). StepsAll (End ∷ ran.goes.before) would shown (searched v state c) (searched ran.goes.last after behind)) (ran.unread long) ran.goes.made in
-    let gone = steps_gone (End ∷ ran.goes.before) query p planned would shown before v state (searched ran.goes.last after behind) few small refl rule (opened_whole query shown v opens) none left rest made in
+    let gone = steps_gone (End ∷ ran.goes.before) query p planned would shown before v state (searched ran.goes.last after behind) less small refl rule (opened_whole query shown v opens) none left rest made in
     search_sum behind.pages behind.leaves behind.records before.pages before.leaves before.records ran.goes.last.trace.pages ran.goes.last.trace.leaves ran.goes.last.trace.fetches (ahead p ran.goes.last.joint) (rest_of p ran.goes.last) v.trace.leaves (ahead p v.joint) v.trace.pages v.trace.fetches (rest_of p v) p planned gone.leaves gone.fewer none.leaves none.pages none.fetches left rest gone.pages_told gone.leaves_told gone.records_told

@@ -13,7 +13,6 @@ use Rattle.rv_retrieval.specs.Effort.{Awaiting}
 use Rattle.rv_retrieval.specs.Opened.{Opened}
 use Rattle.rv_retrieval.specs.Shape.{RetrievalFits, Shape, is_led}
 use Rattle.rv_retrieval.specs.Short.{has_short}
-use Rattle.rv_choice.specs.Asked.{CanAsk}
 use Rattle.rv_search.specs.Searching.{RanOut}
 use Rattle.skew_judges.specs.Guard.{IsBounded}
 use Rattle.rv_bounded.specs.Calls.{Call, DoesAll, lost_by}
@@ -70,12 +69,12 @@ FastReadsAreBounded =
     ≤ 2 * shown.pages query.table query.snap + 2 * (shown.pages query.table query.snap / 8)
     + spare (shown.pages query.table query.snap) + 50 * length opened.joint.plans + lost_by calls
 
--- LAW: a background-only search to its end, in all that it reads, keeps to the bound of a background-only retrieval
--- under a judge that is bounded
+-- LAW: a background-only search to its end among at most eight indexes, in all that it reads, keeps to the bound of a
+-- background-only retrieval under a judge that is bounded
 abbrev pub SearchesAreBounded : Type 0
 SearchesAreBounded =
     (would : ℕ → Facts → Ruling) (state after : ℕ) (shown : Shown) (before behind : Counts) (query : Query)
-    (ran : RanOut would state after shown before behind query) → IsBounded would → CanAsk query shown
+    (ran : RanOut would state after shown before behind query) → IsBounded would → length query.indexes ≤ 8
     → has_short query shown ≡ false → ran.begun.strategy ≡ BackgroundOnly
     → shown.pages query.table query.snap < 2 ^ 63
     → reads behind

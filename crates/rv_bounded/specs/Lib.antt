@@ -5,3 +5,6 @@ pub mod Unions
 pub mod RaceReads
 pub mod UnionReads
 pub mod Plans
+pub mod Cursors
+pub mod OtherPlans
+pub mod Changes

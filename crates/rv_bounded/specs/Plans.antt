@@ -97,12 +97,16 @@ PlanSpendsAll [] shown lost old new = new ≡ old
 PlanSpendsAll (call ∷ calls) shown lost old new =
     (mid : Planned) × (m k : ℕ) × PlanSpendsAll calls shown m old mid × PlanSpends call shown k mid new × (m + k ≤ lost)
 
--- WHAT `open` TELLS OF A PLAN over one FROM item that a retrieval reads, in which no index is short
-pub record PlanOpens (shown : Shown) (opened : Planned) (v : Box Shape Global) : Type 0 where
+-- WHAT `open` TELLS OF A PLAN over one FROM item, which this access reads
+pub record PlanBegins (shown : Shown) (opened : Planned) (access : Access) : Type 0 where
   pub fits : PlanFits shown opened
   pub leads : LeadsWith shown opened
   pub one : IsAlone opened
-  pub here : opened.stack.at.here ≡ Competing v
+  pub here : opened.stack.at.here ≡ access
+
+-- the same of one that a retrieval reads, in which no index is short
+pub record PlanOpens (shown : Shown) (opened : Planned) (v : Box Shape Global) : Type 0 where
+  pub begins : PlanBegins shown opened (Competing v)
   pub long : has_short v.value.query shown ≡ false
 
 -- LAW: where that retrieval is background-only, such a plan never reads more beside what its opening read than twice

@@ -2,6 +2,9 @@
 #![tactic(auto)]
 
 ghost use Rattle.rv_bounded.specs.Bounds.{FastReadsAreBounded, LeavesAreFew, ReadsAreBounded, SearchesAreBounded};
+ghost use Rattle.rv_bounded.specs.Changes.{ChangesAreBounded};
+ghost use Rattle.rv_bounded.specs.Cursors.{CursorsAreBounded, FastCursorsAreBounded, OpensBegin};
+ghost use Rattle.rv_bounded.specs.OtherPlans.{RacedCursorsAreBounded, RacedPlansAreBounded, UnitedCursorsAreBounded, UnitedPlansAreBounded};
 ghost use Rattle.rv_bounded.specs.Plans.{FastPlansAreBounded, PlansAreBounded};
 ghost use Rattle.rv_bounded.specs.RaceReads.{RacesAreBounded};
 ghost use Rattle.rv_bounded.specs.Races.{RacesReadFewLeaves};
@@ -61,4 +64,32 @@ pub fn plans_are_bounded()
 /// A law: and one whose retrieval is fast-first to that one's.
 pub fn fast_plans_are_bounded()
     ensures { FastPlansAreBounded }
+{}
+
+/// A law: so does a cursor, whatever calls of a core move it, and OPEN adds such a cursor.
+pub fn cursors_are_bounded()
+    ensures opens { OpensBegin }
+    ensures moved { CursorsAreBounded }
+{}
+
+/// A law: and one whose retrieval is fast-first.
+pub fn fast_cursors_are_bounded()
+    ensures { FastCursorsAreBounded }
+{}
+
+/// A law: so does a plan whose indexes race, and a cursor with such a plan.
+pub fn raced_plans_are_bounded()
+    ensures plans { RacedPlansAreBounded }
+    ensures cursors { RacedCursorsAreBounded }
+{}
+
+/// A law: and a plan whose members are put together, and a cursor with such a plan.
+pub fn united_plans_are_bounded()
+    ensures plans { UnitedPlansAreBounded }
+    ensures cursors { UnitedCursorsAreBounded }
+{}
+
+/// A law: so does the search of an UPDATE or DELETE of a core, with a fetch of each row that it found.
+pub fn changes_are_bounded()
+    ensures { ChangesAreBounded }
 {}

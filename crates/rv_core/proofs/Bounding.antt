@@ -13,7 +13,7 @@ use Rattle.rv_join.specs.Asking.{lives_of}
 use Rattle.rv_join.specs.Plans.{Planned, plan_trace, plan_work}
 use Rattle.rv_join.specs.Work.{row_cost}
 use Rattle.rv_cursor.specs.declared.cursor.Open.{Open}
-use Rattle.rv_core.specs.Obeying.{IsBounded}
+use Rattle.rv_core.specs.Obeying.{BeginsWithin}
 
 -- a count that began at zero
 no_more : (before after count : ℕ) → after ≡ before → count ≡ raised 0 (after - before) → count ≡ 0
@@ -26,7 +26,7 @@ bounded : (shown : Shown) (s : Select) (indexes : List IndexDef) (snap : ℕ) (b
     → plan_work shown p ≤ row_cost (lives_of p.asked.only) shown snap p.asked.items
     → reads after + plan_effort shown p ≤ reads before + plan_life s indexes shown snap p
     → (has_short (query_of p.stack.at.here) shown ≡ true → Settled p.stack.at.here × (fetches_left p.stack.at.here shown ≤ 20))
-    → IsBounded shown s indexes snap p
+    → BeginsWithin shown s indexes snap p
 bounded shown s indexes snap before after p fresh only counted work life short =
     let pages = no_more before.pages after.pages p.reads.pages only.pages counted.pages in
     let records = no_more before.records after.records p.reads.records only.records counted.fetches in
@@ -39,6 +39,6 @@ pub opens_bounded : {E : Type 0} (r : Result Open E) (shown : Shown) (s : Select
     → IfOk r (λ c. plan_work shown c.plan ≤ row_cost (lives_of c.plan.asked.only) shown snap c.plan.asked.items)
     → IfOk r (λ c. reads after + plan_effort shown c.plan ≤ reads before + plan_life s indexes shown snap c.plan)
     → IfOk r (λ c. has_short (query_of c.plan.stack.at.here) shown ≡ true → Settled c.plan.stack.at.here × (fetches_left c.plan.stack.at.here shown ≤ 20))
-    → IfOk r (λ c. IsBounded shown s indexes snap c.plan)
+    → IfOk r (λ c. BeginsWithin shown s indexes snap c.plan)
 opens_bounded (Err e) shown s indexes snap before after fresh only counted work life short = tt
 opens_bounded (Ok c) shown s indexes snap before after fresh only counted work life short = bounded shown s indexes snap before after c.plan fresh only counted work life short

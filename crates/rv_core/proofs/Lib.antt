@@ -11,6 +11,7 @@ pub mod Putting
 pub mod Rivals
 pub mod Searching
 pub mod Facts
+pub mod Fetched
 pub mod Few
 pub mod Handling
 pub mod Images

@@ -19,7 +19,7 @@ use Rattle.rv_cursor.specs.declared.cursor.Open.{Open}
 use Rattle.rv_cursor.specs.Fetches.{FetchLosesNone, LosesNone, MovesFetchFew, StepLosesNone, TurnLosesNone, lost_in}
 use Rattle.rv_cursor.specs.Left.{SameCursor, seen_at, seen_by}
 use Rattle.rv_cursor.specs.Moves.{Move, MovesByAll, Ruled, TakesOut, TurnMoves, ruled}
-use Rattle.rv_core.specs.Obeying.{AnyOf, FetchOf, IsBounded, MovesAt, SeesSame, StepOf, TurnOf}
+use Rattle.rv_core.specs.Obeying.{AnyOf, FetchOf, BeginsWithin, MovesAt, SeesSame, StepOf, TurnOf}
 use Rattle.rv_core.specs.Pieces.{KeepsSettled, TriesAt}
 use Rattle.rv_core.specs.Short.{AnsweredMoves, CallMoves, CallsMove, Held, held, lost_by}
 
@@ -81,7 +81,7 @@ fetched_few reads left most h = omega (arith, h)
 begin_few : (reads left : ℕ) → reads ≡ 0 → left ≤ 20 → reads + left ≤ 20
 begin_few reads left none few = omega (arith, none, few)
 
-pub short_few : MovesFetchFew → (s : Select) (indexes : List IndexDef) (calls : List (List Move)) (opened now : Held) → IsBounded (seen_by opened.store opened.cursor) s indexes opened.cursor.snap opened.cursor.plan → has_short (query_of opened.cursor.plan.stack.at.here) (seen_by opened.store opened.cursor) ≡ true → IsAlone opened.cursor.plan → CallsMove calls opened now → Settled now.cursor.plan.stack.at.here × ((plan_trace now.cursor.plan).fetches ≤ 20 + lost_by calls)
+pub short_few : MovesFetchFew → (s : Select) (indexes : List IndexDef) (calls : List (List Move)) (opened now : Held) → BeginsWithin (seen_by opened.store opened.cursor) s indexes opened.cursor.snap opened.cursor.plan → has_short (query_of opened.cursor.plan.stack.at.here) (seen_by opened.store opened.cursor) ≡ true → IsAlone opened.cursor.plan → CallsMove calls opened now → Settled now.cursor.plan.stack.at.here × ((plan_trace now.cursor.plan).fetches ≤ 20 + lost_by calls)
 short_few law s indexes calls opened now bounds short one made =
     let start = bounds.short short in
     let first : Few 20 (sight opened) opened.cursor.plan = record { over = start.0; few = begin_few opened.cursor.plan.reads.records (fetches_left opened.cursor.plan.stack.at.here (sight opened)) bounds.records start.1 } in
@@ -101,6 +101,7 @@ take_moves state shown place before after old new tries = record {
   pieces = tries.pieces;
   course = tries.course;
   stays = tries.stays;
+  fits = tries.fits;
 }
 
 -- A piece that is given by itself.

@@ -97,7 +97,7 @@ TurnOf part most would c shown old new = TurnMoves c.hand part most would shown 
 -- union does that number for each branch that the groups may have. The work left of all items is bounded likewise.
 -- Where a restricted index of the first item has an exact estimate of at most 20, the background is over, and at most
 -- 20 records are left to be fetched.
-pub record IsBounded (shown : Shown) (s : Select) (indexes : List IndexDef) (snap : ℕ) (p : Planned) : Type 0 where
+pub record BeginsWithin (shown : Shown) (s : Select) (indexes : List IndexDef) (snap : ℕ) (p : Planned) : Type 0 where
   pub work : plan_work shown p ≤ row_cost (lives_of p.asked.only) shown snap p.asked.items
   pub life : reads p.reads + plan_effort shown p ≤ plan_life s indexes shown snap p
   pub pages : p.reads.pages ≡ 0
@@ -127,7 +127,7 @@ pub record OpensPlan (race : Bool) (shown : Shown) (s : Select) (db : State) (se
   pub fits : CursorFits shown cursor
   pub leads : LeadsWith (seen_by shown cursor) cursor.plan
   pub stage : cursor.plan.stage ≡ stage_of s db.schema.indexes
-  pub bounds : IsBounded (seen_by shown cursor) s db.schema.indexes cursor.snap cursor.plan
+  pub bounds : BeginsWithin (seen_by shown cursor) s db.schema.indexes cursor.snap cursor.plan
 
 -- STEP: so many background steps, and fewer than asked only where no piece is awaited then
 pub record StepOf (would : ℕ → Facts → Ruling) (done most : ℕ) (c : Open) (shown : Shown)

@@ -16,7 +16,7 @@ use Rattle.rv_judge.specs.Tracing.{CountsRise, SameCounts}
 use Rattle.rv_join.specs.Alone.{IsAlone, TakesOnce}
 use Rattle.rv_join.specs.Levels.{first_of}
 use Rattle.rv_join.specs.Pieces.{GivesPiece, TakesAwaited, plan_awaited, plan_pieces, waited, waiting}
-use Rattle.rv_join.specs.Plans.{PlanStays, plan_trace}
+use Rattle.rv_join.specs.Plans.{PlanFits, PlanStays, plan_trace}
 use Rattle.rv_cursor.specs.declared.cursor.Open.{Open}
 use Rattle.rv_cursor.specs.Left.{seen_by}
 
@@ -53,6 +53,7 @@ pub record TriesAt (shown : Shown) (place : ℕ) (before after : Counts) (old ne
   pub counts : CountsRise (plan_trace cursor.plan) (plan_trace left.plan) before after
   pub once : IsAlone cursor.plan → TakesOnce (seen_by shown cursor) before after cursor.plan.stack.at left.plan.stack.at
   pub stays : PlanStays (seen_by shown cursor) cursor.plan left.plan
+  pub fits : PlanFits (seen_by shown cursor) left.plan
 
 -- the piece that it answers is the one that was awaited before the call, and that may now be given
 pub record TakesAt (shown : Shown) (place : ℕ) (before after : Counts) (old new : List Open)

@@ -14,7 +14,7 @@ use Rattle.rv_cursor.specs.declared.cursor.Open.{Open}
 use Rattle.rv_cursor.specs.Fetches.{lost_in}
 use Rattle.rv_cursor.specs.Left.{SameCursor, seen_by}
 use Rattle.rv_cursor.specs.Moves.{Move, MovesByAll, Ruled, TakesOut, ruled}
-use Rattle.rv_core.specs.Obeying.{AnyOf, IsBounded, MovesAt, SeesSame}
+use Rattle.rv_core.specs.Obeying.{AnyOf, BeginsWithin, MovesAt, SeesSame}
 use Rattle.rv_core.specs.Pieces.{TriesAt}
 
 -- an open cursor, and what the store shows
@@ -50,7 +50,7 @@ lost_by (moves ∷ calls) = lost_by calls + lost_in moves
 abbrev pub ShortRangeIsFew : Type 0
 ShortRangeIsFew =
     (s : Select) (indexes : List IndexDef) (calls : List (List Move)) (opened now : Held)
-    → IsBounded (seen_by opened.store opened.cursor) s indexes opened.cursor.snap opened.cursor.plan
+    → BeginsWithin (seen_by opened.store opened.cursor) s indexes opened.cursor.snap opened.cursor.plan
     → has_short (query_of opened.cursor.plan.stack.at.here) (seen_by opened.store opened.cursor) ≡ true
     → IsAlone opened.cursor.plan → CallsMove calls opened now
     → Settled now.cursor.plan.stack.at.here × ((plan_trace now.cursor.plan).fetches ≤ 20 + lost_by calls)

@@ -8,7 +8,7 @@ ghost use Rattle.rv_catalog.specs.Schema.{Schema};
 ghost use Rattle.rv_judge.specs.Runs.{Allowed};
 ghost use Rattle.rv_join.specs.Asking.{IsAsked, indexes_from, item_at};
 ghost use Rattle.rv_join.specs.Plans.{LeadsWith, numbers_of, plan_trace, stage_of};
-ghost use Rattle.rv_core.specs.Obeying.{AnyOf, IsBounded, MovesAt, StepOf};
+ghost use Rattle.rv_core.specs.Obeying.{AnyOf, BeginsWithin, MovesAt, StepOf};
 ghost use Rattle.rv_model.specs.declared.transactions.Transaction.{Transaction};
 ghost use Rattle.rv_model.specs.declared.transactions.Transactions.{Transactions};
 ghost use Rattle.rv_model.specs.Database.{cursor_at, cursor_named};
@@ -146,7 +146,7 @@ pub fn plan_cursor<S: Store + Reader<Ledger = Uncounted>>(
     ensures race { IfOk result (λ c. c.plan.asked.race ≡ race) }
     ensures leads { IfOk result (λ c. LeadsWith (seen_at (S.shown store.now) snap frozen) c.plan) }
     ensures stage { IfOk result (λ c. c.plan.stage ≡ stage_of select.now catalog.now.indexes) }
-    ensures bounds { IfOk result (λ c. IsBounded (seen_at (S.shown store.now) snap frozen) select.now catalog.now.indexes snap c.plan) }
+    ensures bounds { IfOk result (λ c. BeginsWithin (seen_at (S.shown store.now) snap frozen) select.now catalog.now.indexes snap c.plan) }
     ensures snap { IfOk result (λ c. c.snap ≡ snap) }
     ensures frozen { IfOk result (λ c. c.frozen ≡ frozen) }
 {

@@ -9,7 +9,7 @@ ghost use Rattle.rv_judge.specs.Tracing.{CountsRise};
 ghost use Rattle.rv_join.specs.Alone.{IsAlone, TakesOnce};
 ghost use Rattle.rv_join.specs.Levels.{first_of};
 ghost use Rattle.rv_join.specs.Pieces.{TakesAwaited, plan_awaited, plan_pieces, waiting};
-ghost use Rattle.rv_join.specs.Plans.{PlanStays, plan_trace};
+ghost use Rattle.rv_join.specs.Plans.{PlanFits, PlanStays, plan_trace};
 ghost use Rattle.rv_model.specs.declared.transactions.Transaction.{Transaction};
 ghost use Rattle.rv_cursor.specs.Left.{CursorFits, Stays, seen_by};
 ghost use Rattle.rv_core.specs.Db.{AreListed, IsOpen, seen};
@@ -82,6 +82,7 @@ fn take<R: Reader>(
     ensures counts { CountsRise (plan_trace cursor.old.plan) (plan_trace cursor.new.plan) steps.old steps.new }
     ensures once { IsAlone cursor.old.plan → TakesOnce (seen_by (R.shown reader.now) cursor.old) steps.old steps.new cursor.old.plan.stack.at cursor.new.plan.stack.at }
     ensures kept { PlanStays (seen_by (R.shown reader.now) cursor.old) cursor.old.plan cursor.new.plan }
+    ensures left { PlanFits (seen_by (R.shown reader.now) cursor.old) cursor.new.plan }
     ensures same { cursor.new ≡ record cursor.old { plan = cursor.new.plan } }
     ensures stays { Stays (R.shown reader.now) cursor.old cursor.new }
 {

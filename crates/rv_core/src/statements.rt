@@ -4,6 +4,8 @@ ghost use Rattle.rv_parse.specs.Needed.{HasParts};
 ghost use Rattle.rv_parse.specs.Reading.{statement_of};
 ghost use Rattle.rv_catalog.specs.Answers.{Gives};
 ghost use Rattle.rv_catalog.specs.Fits.{FitsSchema};
+ghost use Rattle.rv_catalog.specs.Limits.{is_long};
+ghost use Rattle.rv_catalog.specs.Schema.{Schema as TheSchema};
 ghost use Rattle.rv_model.specs.Standing.{HasRoom};
 ghost use Rattle.rv_model.specs.Step.{understood};
 ghost use Rattle.rv_core.specs.Core.{horizon_of};
@@ -21,7 +23,7 @@ use rv_judge::{Judge, Uncounted};
 use rv_lang::{Refusal, Reply, Statement};
 use rv_parse::Readings;
 use rv_reader::{Reader, Store};
-use rv_value::{NoMemory, Text};
+use rv_value::{Duplicate, NoMemory, Text};
 use std::alloc::Global;
 
 /// The reply to a text, twice, with the step that it makes.
@@ -50,6 +52,9 @@ pub fn answer<S: Store + Reader<Ledger = Uncounted> + Drop>(
 {
     let place = readings.keep(text)?;
     let statement = readings.at(place);
+    if let Some(cursor) = fetched(alloc, statement)? {
+        return database.fetch(session, cursor, judge, settings.steps);
+    }
     match understand(database.catalog(), statement) {
         Ok(asked) => match fetch_name(asked) {
             Ok(name) => database.fetch(session, name, judge, settings.steps),
@@ -93,6 +98,26 @@ pub fn answer_step<S: Store + Reader<Ledger = Uncounted> + Drop>(
         Err(BindFault::Refused(refusal)) => answered(refused(alloc, refusal)),
         Err(BindFault::NoMemory) => Err(NoMemory),
     }
+}
+
+/// The name of the cursor of a FETCH whose name is not too long, which is all that there is to look up of it.
+fn fetched(alloc: Global, statement: &Option<Statement>) -> Result<Option<Text>, NoMemory>
+    ensures { (schema : TheSchema) → IfOk result (λ name. IfSome name (λ name. understood schema statement.now ≡ Ok (Fetch name))) }
+{
+    match statement {
+        Some(Statement::Fetch { cursor }) => short_name(alloc, cursor),
+        _ => Ok(None),
+    }
+}
+
+/// A copy of a name, where it is not too long.
+fn short_name(alloc: Global, name: &Text) -> Result<Option<Text>, NoMemory>
+    ensures { IfOk result (λ short. IfSome short (λ short. (short ≡ name.now) × (is_long name.now ≡ false))) }
+{
+    if name.as_str().len() > 31 {
+        return Ok(None);
+    }
+    Ok(Some(name.copy(alloc)?))
 }
 
 /// The name of the cursor of a FETCH, or else what is asked.

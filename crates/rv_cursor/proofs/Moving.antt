@@ -19,7 +19,7 @@ use Rattle.rv_judge.specs.Tracing.{CountsRise, SameCounts}
 use Rattle.rv_join.specs.Alone.{FewFetches, IsAlone, PlanAsks, PlanSpends, Spends, StepsOnce, TakesOnce, plan_effort}
 use Rattle.rv_join.specs.Levels.{first_of}
 use Rattle.rv_join.specs.Pieces.{GivesPiece, counted_up, plan_awaited, plan_pieces, stack_builds, waited, waiting}
-use Rattle.rv_join.specs.Plans.{PlanKept, PlanMoves, PlanStays, Planned, WorkTo, plan_trace, plan_work}
+use Rattle.rv_join.specs.Plans.{PlanFits, PlanKept, PlanMoves, PlanStays, Planned, WorkTo, plan_trace, plan_work}
 use Rattle.rv_join.specs.declared.plan.PlanStep.{PlanStep}
 use Rattle.rv_join.specs.declared.plan.PlanStep.TheVariants.{Row, End, Working}
 use Rattle.rv_cursor.specs.Moves.{Beside, BesideBy, FetchMoves, GivesBack, LacksMemory, Move, Moves, MovesBy, MovesByAll, RepliesTo, Ruled, StepsBack, StepsBacks, StepsBeside, StepsFront, TakesOut, Turn, TurnMoves, TurnsOn, WorksPiece}
@@ -58,11 +58,11 @@ work_le (Row o) n k less = less
 work_le End n k less = less
 work_le Working n k less = omega (arith, less)
 
-pub front_ok : (m : PlanStep) (would : ℕ → Facts → Ruling) (shown : Shown) (state after : ℕ) (c d : Counts) (old new : Planned) → CountsRise (plan_trace old) (plan_trace new) c d → PlanAsks would state after shown c d old new → (IsAlone old → StepsOnce would state after shown c d old.stack.at new.stack.at) → PlanMoves shown m old new → (IsAlone old → PlanSpends m c d (plan_effort shown old) (plan_effort shown new)) → (IsAlone old → FewFetches 0 shown old new) → StepsFront (Some m) would shown (record { plan = old; judge = state }) (record { plan = new; judge = after })
-front_ok m would shown state after c d old new counts asks once moves spends few = record { asked = moves.asked; before = c; after = d; counts = counts; asks = asks; once = once; work = work_le m (plan_work shown old) (plan_work shown new) moves.work; answers = moves; spends = spends; few = few }
+pub front_ok : (m : PlanStep) (would : ℕ → Facts → Ruling) (shown : Shown) (state after : ℕ) (c d : Counts) (old new : Planned) → CountsRise (plan_trace old) (plan_trace new) c d → PlanAsks would state after shown c d old new → (IsAlone old → StepsOnce would state after shown c d old.stack.at new.stack.at) → PlanMoves shown m old new → (IsAlone old → PlanSpends m c d (plan_effort shown old) (plan_effort shown new)) → (IsAlone old → FewFetches 0 shown old new) → PlanFits shown new → StepsFront (Some m) would shown (record { plan = old; judge = state }) (record { plan = new; judge = after })
+front_ok m would shown state after c d old new counts asks once moves spends few fits = record { asked = moves.asked; before = c; after = d; counts = counts; asks = asks; once = once; work = work_le m (plan_work shown old) (plan_work shown new) moves.work; answers = moves; spends = spends; few = few; fits = fits }
 
-pub front_err : (would : ℕ → Facts → Ruling) (shown : Shown) (state after : ℕ) (c d : Counts) (old new : Planned) → CountsRise (plan_trace old) (plan_trace new) c d → PlanAsks would state after shown c d old new → (IsAlone old → StepsOnce would state after shown c d old.stack.at new.stack.at) → PlanKept shown old new → (IsAlone old → FewFetches 1 shown old new) → StepsFront None would shown (record { plan = old; judge = state }) (record { plan = new; judge = after })
-front_err would shown state after c d old new counts asks once kept few = record { asked = kept.asked; before = c; after = d; counts = counts; asks = asks; once = once; work = kept.work; answers = tt; spends = λ alone. tt; few = few }
+pub front_err : (would : ℕ → Facts → Ruling) (shown : Shown) (state after : ℕ) (c d : Counts) (old new : Planned) → CountsRise (plan_trace old) (plan_trace new) c d → PlanAsks would state after shown c d old new → (IsAlone old → StepsOnce would state after shown c d old.stack.at new.stack.at) → PlanKept shown old new → (IsAlone old → FewFetches 1 shown old new) → PlanFits shown new → StepsFront None would shown (record { plan = old; judge = state }) (record { plan = new; judge = after })
+front_err would shown state after c d old new counts asks once kept few fits = record { asked = kept.asked; before = c; after = d; counts = counts; asks = asks; once = once; work = kept.work; answers = tt; spends = λ alone. tt; few = few; fits = fits }
 
 pub front_moves : (step : PlanStep) (would : ℕ → Facts → Ruling) (shown : Shown) (old new : Ruled) → StepsFront (Some step) would shown old new → Moves would shown old new
 front_moves step would shown old new front = moves_by Front would shown old new (step, front)
@@ -73,21 +73,21 @@ moves_given would shown after old new given same moves = rw same moves
 
 -- A background step.
 
-pub takes_out : (shown : Shown) (state : ℕ) (c d : Counts) (old new : Planned) → d ≡ piece_read (waiting old) c → CountsRise (plan_trace old) (plan_trace new) c d → (IsAlone old → TakesOnce shown c d old.stack.at new.stack.at) → plan_awaited new ≡ plan_awaited old → plan_pieces new ≡ plan_pieces old → SameCourse (first_of old.stack).here (first_of new.stack).here → PlanStays shown old new → TakesOut shown (record { plan = old; judge = state }) (record { plan = new; judge = state })
-takes_out shown state c d old new reads counts once awaited pieces course stays = record { judge = refl; before = c; after = d; reads = reads; counts = counts; once = once; awaited = awaited; pieces = pieces; course = course; stays = stays }
+pub takes_out : (shown : Shown) (state : ℕ) (c d : Counts) (old new : Planned) → d ≡ piece_read (waiting old) c → CountsRise (plan_trace old) (plan_trace new) c d → (IsAlone old → TakesOnce shown c d old.stack.at new.stack.at) → plan_awaited new ≡ plan_awaited old → plan_pieces new ≡ plan_pieces old → SameCourse (first_of old.stack).here (first_of new.stack).here → PlanStays shown old new → PlanFits shown new → TakesOut shown (record { plan = old; judge = state }) (record { plan = new; judge = state })
+takes_out shown state c d old new reads counts once awaited pieces course stays fits = record { judge = refl; before = c; after = d; reads = reads; counts = counts; once = once; awaited = awaited; pieces = pieces; course = course; stays = stays; fits = fits }
 
 pub ruled_same : (old new : Planned) (state after : ℕ) → (new ≡ old) × (after ≡ state) → ◌≡◌ {A = Ruled} (record { plan = new; judge = after }) (record { plan = old; judge = state })
 ruled_same old new state after same = rw (same.0, same.1) refl
 
 -- the awaited piece, given as it was taken, is accepted
-pub gives_back : (g : Given) (would : ℕ → Facts → Ruling) (shown : Shown) (state after : ℕ) (piece sieved : Pieced) (old new : Planned) → AwaitsPiece (waiting old) piece → sieved ≡ piece → GivesPiece old sieved g new → GivesOn would state after sieved g (waiting old) (waited old new) → CountsPiece g (plan_pieces old) (plan_pieces new) → SameCounts (plan_trace old) (plan_trace new) → GiveSpends g (plan_work shown old) (plan_work shown new) → (IsAlone old → GiveSpends g (plan_effort shown old) (plan_effort shown new)) → (IsAlone old → Settled old.stack.at.here → (new ≡ old) × (after ≡ state)) → PlanStays shown old new → GivesBack would shown (record { plan = old; judge = state }) (record { plan = new; judge = after })
-gives_back Accepted would shown state after piece sieved old new awaits same gives obeys counted counts lowers less settled stays = record { piece = sieved; awaits = subst (AwaitsPiece (waiting old)) (sym same) awaits; obeys = obeys; counted = counted; counts = counts; lowers = lowers; less = less; settled = λ one s. ruled_same old new state after (settled one s); stays = stays }
-gives_back (Stale asked now) would shown state after piece sieved old new awaits same gives obeys counted counts lowers less settled stays = absurd (gives.0 (subst (AwaitsPiece (waiting old)) (sym same) awaits))
+pub gives_back : (g : Given) (would : ℕ → Facts → Ruling) (shown : Shown) (state after : ℕ) (piece sieved : Pieced) (old new : Planned) → AwaitsPiece (waiting old) piece → sieved ≡ piece → GivesPiece old sieved g new → GivesOn would state after sieved g (waiting old) (waited old new) → CountsPiece g (plan_pieces old) (plan_pieces new) → SameCounts (plan_trace old) (plan_trace new) → GiveSpends g (plan_work shown old) (plan_work shown new) → (IsAlone old → GiveSpends g (plan_effort shown old) (plan_effort shown new)) → (IsAlone old → Settled old.stack.at.here → (new ≡ old) × (after ≡ state)) → PlanStays shown old new → PlanFits shown new → GivesBack would shown (record { plan = old; judge = state }) (record { plan = new; judge = after })
+gives_back Accepted would shown state after piece sieved old new awaits same gives obeys counted counts lowers less settled stays fits = record { piece = sieved; awaits = subst (AwaitsPiece (waiting old)) (sym same) awaits; obeys = obeys; counted = counted; counts = counts; lowers = lowers; less = less; settled = λ one s. ruled_same old new state after (settled one s); stays = stays; fits = fits }
+gives_back (Stale asked now) would shown state after piece sieved old new awaits same gives obeys counted counts lowers less settled stays fits = absurd (gives.0 (subst (AwaitsPiece (waiting old)) (sym same) awaits))
 
-pub back_is : (would : ℕ → Facts → Ruling) (shown : Shown) (state : ℕ) (c d : Counts) (old mid : Planned) (new : Ruled) → d ≡ piece_read (waiting old) c → CountsRise (plan_trace old) (plan_trace mid) c d → (IsAlone old → TakesOnce shown c d old.stack.at mid.stack.at) → plan_awaited mid ≡ plan_awaited old → plan_pieces mid ≡ plan_pieces old → SameCourse (first_of old.stack).here (first_of mid.stack).here → PlanStays shown old mid → (IsAlone old → Spends c d (plan_effort shown old) (plan_effort shown mid)) → GivesBack would shown (record { plan = mid; judge = state }) new → StepsBack would shown (record { plan = old; judge = state }) new
-back_is would shown state c d old mid new reads counts once awaited pieces course stays spends gives = record {
+pub back_is : (would : ℕ → Facts → Ruling) (shown : Shown) (state : ℕ) (c d : Counts) (old mid : Planned) (new : Ruled) → d ≡ piece_read (waiting old) c → CountsRise (plan_trace old) (plan_trace mid) c d → (IsAlone old → TakesOnce shown c d old.stack.at mid.stack.at) → plan_awaited mid ≡ plan_awaited old → plan_pieces mid ≡ plan_pieces old → SameCourse (first_of old.stack).here (first_of mid.stack).here → PlanStays shown old mid → PlanFits shown mid → (IsAlone old → Spends c d (plan_effort shown old) (plan_effort shown mid)) → GivesBack would shown (record { plan = mid; judge = state }) new → StepsBack would shown (record { plan = old; judge = state }) new
+back_is would shown state c d old mid new reads counts once awaited pieces course stays fits spends gives = record {
   taken = record { plan = mid; judge = state };
-  takes = record { judge = refl; before = c; after = d; reads = reads; counts = counts; once = once; awaited = awaited; pieces = pieces; course = course; stays = stays };
+  takes = record { judge = refl; before = c; after = d; reads = reads; counts = counts; once = once; awaited = awaited; pieces = pieces; course = course; stays = stays; fits = fits };
   spends = spends;
   gives = gives;
 }

@@ -17,7 +17,7 @@ use Rattle.rv_judge.specs.Tracing.{CountsRise, SameCounts}
 use Rattle.rv_join.specs.Alone.{FewFetches, IsAlone, PlanAsks, PlanSpends, Spends, StepsOnce, TakesOnce, plan_effort}
 use Rattle.rv_join.specs.Levels.{first_of}
 use Rattle.rv_join.specs.Pieces.{plan_awaited, plan_pieces, stack_builds, waited, waiting}
-use Rattle.rv_join.specs.Plans.{PlanMoves, PlanStays, Planned, plan_trace, plan_work}
+use Rattle.rv_join.specs.Plans.{PlanFits, PlanMoves, PlanStays, Planned, plan_trace, plan_work}
 use Rattle.rv_join.specs.declared.plan.PlanStep.{PlanStep}
 use Rattle.rv_join.specs.declared.plan.PlanStep.TheVariants.{Row, End, Working}
 use Rattle.rv_cursor.specs.declared.cursor.Open.{Open}
@@ -54,6 +54,7 @@ pub record StepsFront (answer : Option PlanStep) (would : ℕ → Facts → Ruli
   pub spends : IsAlone old.plan
       → IfSome answer (λ step. PlanSpends step before after (plan_effort shown old.plan) (plan_effort shown new.plan))
   pub few : IsAlone old.plan → FewFetches (wanting answer) shown old.plan new.plan
+  pub fits : PlanFits shown new.plan
 
 -- THE AWAITED PIECE IS TAKEN, or no memory was found for it: its leaf is read where it is not held; it is awaited as
 -- before, and none was counted; and the trace tells no more than before
@@ -68,6 +69,7 @@ pub record TakesOut (shown : Shown) (old new : Ruled) : Type 0 where
   pub pieces : plan_pieces new.plan ≡ plan_pieces old.plan
   pub course : SameCourse (first_of old.plan.stack).here (first_of new.plan.stack).here
   pub stays : PlanStays shown old.plan new.plan
+  pub fits : PlanFits shown new.plan
 
 -- THAT PIECE, SIEVED, IS GIVEN and accepted: where it is not the last of its scan the judge is asked once, and
 -- obeyed. Over one FROM item there is none where the background is over.
@@ -81,6 +83,7 @@ pub record GivesBack (would : ℕ → Facts → Ruling) (shown : Shown) (old new
   pub less : IsAlone old.plan → plan_effort shown new.plan < plan_effort shown old.plan
   pub settled : IsAlone old.plan → Settled old.plan.stack.at.here → new ≡ old
   pub stays : PlanStays shown old.plan new.plan
+  pub fits : PlanFits shown new.plan
 
 -- what happens to a plan: a foreground step, one for which no memory is found, and a piece that is taken or given
 pub data Move : Type 0 where

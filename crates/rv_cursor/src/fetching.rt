@@ -15,11 +15,11 @@ use rv_lang::Reply;
 use rv_model::Offer;
 use rv_reader::Reader;
 use rv_snapshot::Snapshot;
-use rv_value::{Duplicate, Items, NoMemory, Value};
+use rv_value::{Duplicate, NoMemory, Values};
 use std::alloc::Global;
 
 /// The replies of the offer that was in hand: its row, which moves into the first, and a copy of it.
-fn replies_of(given: Option<Offer>, copy: Items<Value>) -> (Reply, Reply)
+fn replies_of(given: Option<Offer>, copy: Values) -> (Reply, Reply)
     ensures { IfSome given (λ o. (result.0 ≡ Row o.returned) × (result.1 ≡ Row copy)) }
 {
     match given {

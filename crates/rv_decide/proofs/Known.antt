@@ -12,7 +12,7 @@ use Rattle.rv_judge.specs.declared.events.Control.TheVariants.{BackgroundAlone, 
 use Rattle.rv_judge.specs.declared.events.Event.{Event}
 use Rattle.rv_judge.specs.declared.events.Event.TheVariants.{At, Scan, List as ListOf, Drop, Full as FullEvent, Stop}
 use Rattle.rv_judge.specs.Runs.{has_index, scans}
-use Rattle.rv_course.specs.Reading.{begins_scan, ends_in, goes_on, is_known, is_over, is_read, is_scanning, leads_to, listed_by, reads, reads_all, reads_at, reads_by, reads_scans, reads_tail, reads_union, same_control}
+use Rattle.rv_decide.specs.Course.{begins_scan, ends_in, goes_on, is_known, is_over, is_read, is_scanning, leads_to, listed_by, reads, reads_all, reads_at, reads_by, reads_scans, reads_tail, reads_union, same_control}
 use Rattle.rv_decide.proofs.Names.{names_known}
 
 -- the scan under way is of one of these indexes

@@ -5,3 +5,9 @@ pub mod Known
 pub mod May
 pub mod Shown
 pub mod Named
+pub mod Controls
+pub mod Scanned
+pub mod Sound
+pub mod Complete
+pub mod Unions
+pub mod Deciding

@@ -11,8 +11,8 @@ use Rattle.rv_judge.proofs.Allowing.{retold}
 use Rattle.rv_lang.specs.declared.reply.Shown.{Shown}
 use Rattle.rv_catalog.specs.declared.def.IndexDef.{IndexDef}
 use Rattle.rv_model.specs.Showing.{ShowsTrace, numbers_over}
-use Rattle.rv_course.specs.Told.{trace_of}
-use Rattle.rv_course.proofs.Deciding.{decides}
+use Rattle.rv_decide.specs.Told.{trace_of}
+use Rattle.rv_decide.proofs.Deciding.{decides}
 use Rattle.rv_decide.specs.Naming.{AreNamedApart}
 use Rattle.rv_decide.specs.Reading.{events_of}
 use Rattle.rv_decide.proofs.Known.{events_known}

@@ -76,9 +76,17 @@ fn add_offer(
 fn offer_of(alloc: Global, select: &Select, chosen: &[Values]) -> Result<Offer, NoMemory>
     ensures { IfOk result (λ offer. offer ≡ offer_over select.now.order select.now.returns chosen.now) }
 {
-    let order = picked(alloc, select.order.as_slice(), chosen, &Value::Null)?;
-    let returned = picked(alloc, select.returns.as_slice(), chosen, &Value::Null)?;
+    let order = Items::from_vec(picked(alloc, select.order.as_slice(), chosen, &Value::Null)?);
+    let returned = returned(alloc, select.returns.as_slice(), chosen)?;
     Ok(Offer { order, returned })
+}
+
+/// The values of columns, to be shared.
+fn returned(alloc: Global, columns: &[ColRef], rows: &[Values]) -> Result<Values, NoMemory>
+    ensures { IfOk result (λ values. values ≡ picked_over columns.now rows.now) }
+{
+    let values = picked(alloc, columns, rows, &Value::Null)?;
+    Values::of(alloc, values)
 }
 
 /// The values of columns.
@@ -87,13 +95,13 @@ fn picked(
     columns: &[ColRef],
     rows: &[Values],
     null: &Value,
-) -> Result<Items<Value>, NoMemory>
+) -> Result<Vec<Value>, NoMemory>
     requires { null.now ≡ Null }
-    ensures { IfOk result (λ values. values ≡ picked_over columns.now rows.now) }
+    ensures { IfOk result (λ values. values.items ≡ picked_over columns.now rows.now) }
 {
     let mut values = Vec::with_capacity(alloc, columns.len())?;
     'columns: for column in columns {
         values.push(value_at(rows, null, *column).copy(alloc)?)?;
     }
-    Ok(Items::from_vec(values))
+    Ok(values)
 }

@@ -2,6 +2,7 @@
 #![tactic(auto)]
 
 pub mod choosing;
+pub mod course;
 pub mod showing;
 pub mod truths;
 

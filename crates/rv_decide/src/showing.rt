@@ -4,8 +4,8 @@ ghost use Rattle.rv_model.specs.Showing.{ShowsTrace, numbers_over};
 ghost use Rattle.rv_decide.specs.Naming.{AreNamedApart};
 ghost use Rattle.rv_decide.specs.Reading.{event_of, events_of, number_of};
 
+use crate::course::is_allowed;
 use rv_catalog::IndexDef;
-use rv_course::is_allowed;
 use rv_judge::Event;
 use rv_lang::{Shown, ShownEvent};
 use rv_value::{NoMemory, Text};

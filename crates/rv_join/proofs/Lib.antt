@@ -8,6 +8,7 @@ pub mod Product
 pub mod Catching
 pub mod Calls
 pub mod Collecting
+pub mod Picking
 pub mod Planning
 pub mod Binding
 pub mod Running

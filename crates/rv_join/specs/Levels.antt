@@ -1,10 +1,11 @@
 -- The combinations that nested loops have still to give, as a bag of offers.
-use Rattle.std.specs.Prelude.{◌≡◌, ℕ, ◌+◌, ◌<◌, ◌-◌, Bool, List, [], ◌∷◌, ◌++◌, length, filter, map, drop, nat_eq, replicate, Option, Some, None}
+use Rattle.std.specs.Prelude.{◌≡◌, ℕ, ◌+◌, ◌<◌, ◌-◌, ◌&&◌, Bool, true, List, [], ◌∷◌, ◌++◌, length, filter, map, drop, nat_eq, replicate, Option, Some, None}
 use Rattle.std.specs.List.{flat_map}
 use Rattle.rv_value.specs.declared.value.Value.{Value}
 use Rattle.rv_value.specs.declared.value.Value.TheVariants.{Null}
 use Rattle.rv_value.specs.declared.record.Record.{Record}
 use Rattle.rv_model.specs.declared.state.Offer.{Offer}
+use Rattle.rv_restrict.specs.declared.atom.ColRef.{ColRef}
 use Rattle.rv_reader.specs.Shown.{Shown}
 use Rattle.rv_judge.specs.Counting.{raised}
 use Rattle.rv_access.specs.Accesses.{AccessFits, Awaiting, Tells, query_of, rest}
@@ -19,6 +20,15 @@ tables_of a = map (λ (i : Item). i.table) a.items
 
 abbrev pub offered : Asked → List (List Value) → Offer
 offered a rows = offer_over a.order a.returns rows
+
+-- references that read the values of a place one after another, from a column on
+abbrev pub reads_on : ℕ → ℕ → List ColRef → Bool
+reads_on place from [] = true
+reads_on place from (c ∷ cs) = (nat_eq c.place place && nat_eq c.column from) && reads_on place (from + 1) cs
+
+-- they read all values of a row in a place, in their order
+abbrev pub reads_whole : ℕ → List Value → List ColRef → Bool
+reads_whole place row columns = nat_eq (length columns) (length row) && reads_on place 0 columns
 
 -- the rows of each table at a snapshot
 abbrev pub table_rows : Shown → ℕ → ℕ → List Record

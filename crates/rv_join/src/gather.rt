@@ -16,7 +16,7 @@ use crate::stack::{Moved, Stack};
 use rv_judge::{Judge, Steps};
 use rv_model::Offer;
 use rv_reader::Reader;
-use rv_value::{NoMemory, Value};
+use rv_value::NoMemory;
 use std::alloc::Global;
 use std::marker::Model;
 
@@ -31,22 +31,20 @@ pub enum Stage {
     Giving,
 }
 
-/// Offers gathered: their values one behind another, and where those of each begin, the first offer's last.
+/// Offers gathered, as they come: the first one stands last.
 #[derive(Drop)]
 pub struct Gathered {
     widths: Widths,
-    values: Vec<Value>,
-    starts: Vec<usize>,
+    offers: Vec<Offer>,
 }
 
 impl Model for Gathered {
-    ghost use Rattle.rv_join.specs.Collected.{AreKept, Collected, offers_at};
+    ghost use Rattle.std.specs.Prelude.{reverse};
+    ghost use Rattle.rv_join.specs.Collected.{Collected};
 
     ghost Value = { Collected };
 
-    ghost view = { λ g. record { widths = g.widths; offers = offers_at g.widths g.values.items g.starts.items } };
-
-    ghost invariant = { λ g. AreKept g.widths g.values.items g.starts.items };
+    ghost view = { λ g. record { widths = g.widths; offers = reverse g.offers.items } };
 }
 
 impl Gathered {
@@ -56,14 +54,13 @@ impl Gathered {
     {
         Gathered {
             widths: widths_of(asked),
-            values: Vec::new(alloc),
-            starts: Vec::new(alloc),
+            offers: Vec::new(alloc),
         }
     }
 
     /// One step of nested loops, whose combination, if it gives one, is put to those gathered. The answer is whether all
     /// are gathered.
-    #[tactic(auto, using(crate::proofs::Planning::gathered_more, crate::proofs::Planning::moving_more, crate::proofs::OneItem::no_call, crate::proofs::Collecting::kept_same, rv_access::proofs::Accesses::plans_stay))]
+    #[tactic(auto, using(crate::proofs::Planning::gathered_more, crate::proofs::Planning::moving_more, crate::proofs::OneItem::no_call, rv_access::proofs::Accesses::plans_stay))]
     pub fn gather<R: Reader>(
         &mut self,
         alloc: Global,
@@ -88,12 +85,10 @@ impl Gathered {
         ensures kept { OnErr result (Kept asked.now (R.shown reader.now) stack.old stack.new) }
         ensures same { OnErr result (self.new ≡ self.old) }
     {
-        let widths = self.widths;
-        self.values.reserve(widths.order + widths.returned)?;
-        self.starts.reserve(1)?;
+        self.offers.reserve(1)?;
         match stack.advance(alloc, asked, reader, judge, steps)? {
             Moved::Gave(offer) => {
-                keep(widths, &mut self.values, &mut self.starts, offer);
+                keep(&mut self.offers, offer);
                 Ok(false)
             }
             Moved::Moving => Ok(false),
@@ -107,15 +102,14 @@ impl Gathered {
         ensures sorted { OnOk result (IsSortedBy before self.new.offers) }
         ensures widths { self.new.widths ≡ self.old.widths }
     {
-        sort(self.widths, self.values.as_slice(), &mut self.starts)
+        sort(&mut self.offers)
     }
 
     /// Takes the first offer.
-    pub fn take(&mut self, alloc: Global) -> Result<Option<Offer>, NoMemory>
-        ensures taken { IfOk result (λ offer. Taken offer self.old.offers self.new.offers) }
+    pub fn take(&mut self) -> Option<Offer>
+        ensures taken { Taken result self.old.offers self.new.offers }
         ensures widths { self.new.widths ≡ self.old.widths }
-        ensures err { OnErr result (self.new ≡ self.old) }
     {
-        take(alloc, self.widths, self.values.as_slice(), &mut self.starts)
+        take(&mut self.offers)
     }
 }

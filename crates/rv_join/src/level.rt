@@ -1,5 +1,5 @@
 //! Levels: an open access to a table over the rows chosen of the FROM items before its own.
-ghost use Rattle.std.specs.Prelude.{◌≡◌, ℕ, ◌+◌, ◌<◌, ◌≤◌, List, [], ◌∷◌, ◌++◌, length, map, true, None, IfOk, OnOk, OnErr};
+ghost use Rattle.std.specs.Prelude.{◌≡◌, ℕ, ◌+◌, ◌<◌, ◌≤◌, ◌^◌, List, [], ◌∷◌, ◌++◌, length, map, true, None, IfOk, OnOk, OnErr};
 ghost use Rattle.std.specs.List.{slice_index_or};
 ghost use Rattle.rv_restrict.specs.Bind.{rows_reads};
 ghost use Rattle.rv_reader.specs.Shown.{Shown};
@@ -9,7 +9,7 @@ ghost use Rattle.rv_retrieval.specs.Short.{OnlyLeaves};
 ghost use Rattle.rv_access.specs.Accesses.{control_of};
 ghost use Rattle.rv_join.specs.Alone.{Fetches, LevelSpends, StepsOnce};
 ghost use Rattle.rv_join.specs.Asking.{CanRun, item_at};
-ghost use Rattle.rv_join.specs.Levels.{LevelFits, offered, widened};
+ghost use Rattle.rv_join.specs.Levels.{LevelFits, offered, reads_on, reads_whole, widened};
 ghost use Rattle.rv_join.specs.Moves.{Catches, Descends, LevelStays, OpensInner, Rises};
 ghost use Rattle.rv_model.specs.Offering.{picked_over};
 ghost use Rattle.rv_join.specs.Pieces.{is_waiting};
@@ -134,12 +134,51 @@ fn pick(
     columns: &[ColRef],
     outer: &[Values],
     row: &Values,
-) -> Result<Items<Value>, NoMemory>
-    ensures { IfOk result (λ values. values ≡ picked_over columns.now (outer.now ++ row.now ∷ [])) }
+) -> Result<Vec<Value>, NoMemory>
+    ensures { IfOk result (λ values. values.items ≡ picked_over columns.now (outer.now ++ row.now ∷ [])) }
 {
     let mut values = Vec::with_capacity(alloc, columns.len())?;
     pick_into(alloc, columns, outer, row, &mut values)?;
-    Ok(Items::from_vec(values))
+    Ok(values)
+}
+
+/// Whether references read the values of a place one after another, from a column on.
+fn reads_on(columns: &[ColRef], place: usize, from: usize) -> bool
+    requires { from + length columns.now < 2 ^ 64 }
+    ensures { result ≡ reads_on place from columns.now }
+{
+    match columns {
+        [] => true,
+        [column, more @ ..] => {
+            column.place as usize == place
+                && column.column as usize == from
+                && reads_on(more, place, from + 1)
+        }
+    }
+}
+
+/// Whether references read all values of a row in a place, in their order.
+fn reads_whole(columns: &[ColRef], place: usize, row: &Values) -> bool
+    ensures { result ≡ reads_whole place row.now columns.now }
+{
+    columns.len() == row.as_slice().len() && reads_on(columns, place, 0)
+}
+
+/// The values that references read, as those of a row. The row behind the chosen ones is shared where they read all of it.
+#[tactic(auto, using(crate::proofs::Picking::whole_row))]
+fn pick_row(
+    alloc: Global,
+    columns: &[ColRef],
+    outer: &[Values],
+    row: &Values,
+) -> Result<Values, NoMemory>
+    ensures { IfOk result (λ values. values ≡ picked_over columns.now (outer.now ++ row.now ∷ [])) }
+{
+    if reads_whole(columns, outer.len(), row) {
+        return row.copy(alloc);
+    }
+    let values = pick(alloc, columns, outer, row)?;
+    Values::of(alloc, values)
 }
 
 impl Level {
@@ -247,8 +286,8 @@ impl Level {
     {
         let outer = self.outer.as_slice();
         Ok(Offer {
-            order: pick(alloc, asked.order.as_slice(), outer, row)?,
-            returned: pick(alloc, asked.returns.as_slice(), outer, row)?,
+            order: Items::from_vec(pick(alloc, asked.order.as_slice(), outer, row)?),
+            returned: pick_row(alloc, asked.returns.as_slice(), outer, row)?,
         })
     }
 }

@@ -297,7 +297,7 @@ impl Plan {
         ensures same { self.new ≡ record self.old { gathered = self.new.gathered } }
         ensures err { OnErr result (self.new ≡ self.old) }
     {
-        match self.gathered.take(self.alloc)? {
+        match self.gathered.take() {
             Some(offer) => Ok(PlanStep::Row(offer)),
             None => Ok(PlanStep::End),
         }

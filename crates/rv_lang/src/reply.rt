@@ -1,6 +1,6 @@
 //! What is answered to a call.
 use rv_judge::{Control, Strategy};
-use rv_value::{Duplicate, Items, NoMemory, RowNo, Shared, Text, Value};
+use rv_value::{Duplicate, Items, NoMemory, RowNo, Shared, Text, Values};
 use std::alloc::Global;
 
 /// The limits, in the order in which those of the statement and then those of the state are tested.
@@ -105,7 +105,7 @@ pub enum Reply {
     Committed(u64),
     RolledBack,
     Opened,
-    Row(Items<Value>),
+    Row(Values),
     End,
     Closed,
     /// How many background steps were done.

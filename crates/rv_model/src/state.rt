@@ -3,13 +3,13 @@ use crate::queue::Queue;
 use crate::transactions::Transactions;
 use rv_catalog::Catalog;
 use rv_rows::Rows;
-use rv_value::{Items, Text, Value};
+use rv_value::{Items, Text, Value, Values};
 
 /// What a cursor may give: the values of the ORDER BY columns, and the values returned.
 #[derive(Drop)]
 pub struct Offer {
     pub order: Items<Value>,
-    pub returned: Items<Value>,
+    pub returned: Values,
 }
 
 /// An open cursor of a session, the table of its first FROM item, and the offers that it has left,

@@ -11,7 +11,7 @@ ghost use Rattle.rv_replay.specs.Queues.{AreTaken, IsFront, IsGiven, IsQueue, al
 use rv_blocks::{Front, turn_in};
 use rv_lang::Reply;
 use rv_model::Offer;
-use rv_value::{Items, NoMemory, Value, cmp_values};
+use rv_value::{Items, NoMemory, Value, Values, cmp_values};
 use std::alloc::Global;
 use std::cmp::Ordering;
 use std::marker::Model;
@@ -53,7 +53,7 @@ impl OfferQueue {
     }
 
     /// Whether an offer returns these values with the first offer's order values. Where one does, it is taken out.
-    fn take_values(&mut self, values: &Items<Value>) -> bool
+    fn take_values(&mut self, values: &Values) -> bool
         ensures { JudgesOffers result self.old (Row values.now) self.new }
     {
         take_row(&mut self.front, &mut self.alike, values)
@@ -131,7 +131,7 @@ fn one_less(alike: &mut Vec<Alike>, place: usize)
 #[derive(Clone, Copy)]
 struct Under<'a> {
     order: &'a Items<Value>,
-    returned: &'a Items<Value>,
+    returned: &'a Values,
 }
 
 impl<'a> Front<Alike> for Under<'a> {
@@ -143,7 +143,7 @@ impl<'a> Front<Alike> for Under<'a> {
 }
 
 /// How an offer compares with one of these values.
-fn cmp_sought(offer: &Offer, order: &Items<Value>, returned: &Items<Value>) -> Ordering
+fn cmp_sought(offer: &Offer, order: &Items<Value>, returned: &Values) -> Ordering
     ensures { result ≡ offer_cmp offer.now (record { order = order.now; returned = returned.now }) }
 {
     match cmp_values(offer.order.as_slice(), order.as_slice()) {
@@ -153,7 +153,7 @@ fn cmp_sought(offer: &Offer, order: &Items<Value>, returned: &Items<Value>) -> O
 }
 
 /// How many of these come before an offer of these values.
-fn place_of(alike: &[Alike], order: &Items<Value>, returned: &Items<Value>) -> usize
+fn place_of(alike: &[Alike], order: &Items<Value>, returned: &Values) -> usize
     ensures { Turns (λ a. is_under (record { order = order.now; returned = returned.now }) a) alike.now result }
 {
     turn_in(alike, &Under { order, returned })
@@ -170,7 +170,7 @@ pub fn take_given(offers: &mut OfferQueue, given: &Reply) -> bool
     }
 }
 
-fn take_row(front: &mut usize, alike: &mut Vec<Alike>, values: &Items<Value>) -> bool
+fn take_row(front: &mut usize, alike: &mut Vec<Alike>, values: &Values) -> bool
     requires { IsQueue front.old alike.old.items }
     ensures judged { JudgesOffers result (all_of alike.old.items) (Row values.now) (all_of alike.new.items) }
     ensures queue { IsQueue front.new alike.new.items }
@@ -197,7 +197,7 @@ fn take_at(front: &mut usize, alike: &mut Vec<Alike>, place: usize)
 }
 
 /// The place of the offers that return these values with the first offer's order values, where one is left.
-fn place_given(alike: &[Alike], front: usize, values: &Items<Value>) -> Option<usize>
+fn place_given(alike: &[Alike], front: usize, values: &Values) -> Option<usize>
     requires { IsQueue front alike.now }
     ensures { IsGiven alike.now values.now result }
 {
@@ -207,7 +207,7 @@ fn place_given(alike: &[Alike], front: usize, values: &Items<Value>) -> Option<u
     }
 }
 
-fn place_for(alike: &[Alike], first: &Offer, values: &Items<Value>) -> Option<usize>
+fn place_for(alike: &[Alike], first: &Offer, values: &Values) -> Option<usize>
     requires rises { Rising comes_before alike.now }
     requires begins { slice_get (all_of alike.now) 0 ≡ Some first.now }
     ensures { IsGiven alike.now values.now result }
@@ -271,7 +271,7 @@ fn has_left(alike: &[Alike], place: usize) -> bool
 }
 
 /// Whether the offers in a place fit.
-fn fits_at(alike: &[Alike], place: usize, first: &Offer, values: &Items<Value>) -> bool
+fn fits_at(alike: &[Alike], place: usize, first: &Offer, values: &Values) -> bool
     ensures { result ≡ fits_at first.now values.now (slice_get alike.now place) }
 {
     match alike.get(place) {
@@ -281,7 +281,7 @@ fn fits_at(alike: &[Alike], place: usize, first: &Offer, values: &Items<Value>) 
 }
 
 /// Whether the offers in a place fit and one of them is left.
-fn may_give(alike: &[Alike], place: usize, first: &Offer, values: &Items<Value>) -> bool
+fn may_give(alike: &[Alike], place: usize, first: &Offer, values: &Values) -> bool
     ensures { result ≡ may_give first.now values.now (slice_get alike.now place) }
 {
     match alike.get(place) {
@@ -290,14 +290,15 @@ fn may_give(alike: &[Alike], place: usize, first: &Offer, values: &Items<Value>)
     }
 }
 
-fn fits(offer: &Offer, first: &Offer, values: &Items<Value>) -> bool
+fn fits(offer: &Offer, first: &Offer, values: &Values) -> bool
     ensures { result ≡ Rattle.rv_replay.specs.Judging.fits first.now values.now offer.now }
 {
-    same_values(&offer.order, &first.order) && same_values(&offer.returned, values)
+    same_values(offer.order.as_slice(), first.order.as_slice())
+        && same_values(offer.returned.as_slice(), values.as_slice())
 }
 
-fn same_values(a: &Items<Value>, b: &Items<Value>) -> bool
+fn same_values(a: &[Value], b: &[Value]) -> bool
     ensures { result ≡ same_values a.now b.now }
 {
-    cmp_values(a.as_slice(), b.as_slice()) == Ordering::Equal
+    cmp_values(a, b) == Ordering::Equal
 }

@@ -6,13 +6,13 @@ ghost use Rattle.rv_model.specs.Transcript.{values_text, more_text, value_text};
 
 use itoa::Buffer;
 use rv_io::{Failed, Sink, write_next};
-use rv_value::{Items, Value};
+use rv_value::{Value, Values};
 
 /// A row's text.
 pub fn write_row<K: Sink>(
     sink: &mut K,
     sofar: Result<(), Failed>,
-    values: &Items<Value>,
+    values: &Values,
 ) -> Result<(), Failed>
     ensures { Goes sofar (K.written sink.old) (K.written sink.new) (K.faults sink.old) (K.faults sink.new) result (codes "row " ++ values_text values.now) }
 {

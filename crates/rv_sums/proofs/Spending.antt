@@ -20,9 +20,10 @@ use Rattle.rv_cursor.specs.Left.{seen_at, seen_by}
 use Rattle.rv_cursor.specs.Moves.{Move, MovesBy, MovesByAll, Ruled, StepsFront, TakesOut, ruled}
 use Rattle.rv_cursor.specs.Moves.Move.{Front, Lost, Take, Give}
 use Rattle.rv_cursor.proofs.Fewer.{moves_asked, still_alone}
-use Rattle.rv_core.specs.Obeying.{IsBounded}
+use Rattle.rv_core.specs.Obeying.{BeginsWithin}
 use Rattle.rv_core.specs.Short.{CallMoves, CallsMove, Held, lost_by}
-use Rattle.rv_sums.specs.Sums.{given_by, given_in, given_of, spent, taken_by, taken_in, taken_of, told_reads}
+use Rattle.rv_bounded.specs.Bounds.{reads_told}
+use Rattle.rv_sums.specs.Sums.{given_by, given_in, given_of, spent, taken_by, taken_in, taken_of}
 use Rattle.rv_sums.proofs.Reading.{One, access_one, piece_one, rise, spends_rise, tries_rise}
 
 -- What the trace counts.
@@ -147,8 +148,8 @@ calls_spend (moves ∷ calls) old new made one =
 within : (told effort given begun life lost taken : ℕ) → told + effort + given ≤ begun + lost + taken → begun ≤ life → told + given ≤ life + lost + taken
 within told effort given begun life lost taken sum bound = omega (arith, sum, bound)
 
-pub life_bounded : (s : Select) (indexes : List IndexDef) (calls : List (List Move)) (opened now : Held) → IsBounded (seen_by opened.store opened.cursor) s indexes opened.cursor.snap opened.cursor.plan → IsAlone opened.cursor.plan → CallsMove calls opened now
-    → told_reads (plan_trace now.cursor.plan) + given_by calls ≤ plan_life s indexes (seen_by opened.store opened.cursor) opened.cursor.snap opened.cursor.plan + lost_by calls + taken_by calls
+pub life_bounded : (s : Select) (indexes : List IndexDef) (calls : List (List Move)) (opened now : Held) → BeginsWithin (seen_by opened.store opened.cursor) s indexes opened.cursor.snap opened.cursor.plan → IsAlone opened.cursor.plan → CallsMove calls opened now
+    → reads_told (plan_trace now.cursor.plan) + given_by calls ≤ plan_life s indexes (seen_by opened.store opened.cursor) opened.cursor.snap opened.cursor.plan + lost_by calls + taken_by calls
 life_bounded s indexes calls opened now bounded one made =
     within (reads now.cursor.plan.reads) (plan_effort (sight opened) now.cursor.plan) (given_by calls) (spent (sight opened) opened.cursor.plan) (plan_life s indexes (sight opened) opened.cursor.snap opened.cursor.plan) (lost_by calls) (taken_by calls)
     (calls_spend calls opened now made one) bounded.life

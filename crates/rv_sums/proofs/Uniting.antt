@@ -33,7 +33,8 @@ use Rattle.rv_join.specs.Plans.{plan_trace}
 use Rattle.rv_join.specs.Work.{held_rows}
 use Rattle.rv_cursor.specs.Fetches.{lost_in}
 use Rattle.rv_cursor.specs.Moves.{Move, MovesByAll, Ruled}
-use Rattle.rv_sums.specs.Sums.{HasMet, IsListing, given_in, taken_in, told_reads}
+use Rattle.rv_bounded.specs.Bounds.{reads_told}
+use Rattle.rv_sums.specs.Sums.{HasMet, IsListing, given_in, taken_in}
 use Rattle.rv_sums.proofs.Spending.{moves_spend}
 
 -- The keys of the list.
@@ -89,7 +90,7 @@ listing_effort (Uniting u) shown keys list = ap (λ (c : Control). effort_by c (
 without_effort : (now left given was effort held keys lost taken : ℕ) → now + left + given ≤ was + (effort + held) + lost + taken → effort ≡ keys → now + given ≤ was + keys + held + lost + taken
 without_effort now left given was effort held keys lost taken sum is = omega (arith, sum, is)
 
-pub list_reads : (moves : List Move) (would : ℕ → Facts → Ruling) (shown : Shown) (old new : Ruled) (keys : ℕ) → MovesByAll moves would shown old new → IsAlone old.plan → IsListing old.plan.stack.at.here keys → told_reads (plan_trace new.plan) + given_in moves ≤ told_reads (plan_trace old.plan) + keys + held_rows old.plan.stack.at.row + lost_in moves + taken_in moves
+pub list_reads : (moves : List Move) (would : ℕ → Facts → Ruling) (shown : Shown) (old new : Ruled) (keys : ℕ) → MovesByAll moves would shown old new → IsAlone old.plan → IsListing old.plan.stack.at.here keys → reads_told (plan_trace new.plan) + given_in moves ≤ reads_told (plan_trace old.plan) + keys + held_rows old.plan.stack.at.row + lost_in moves + taken_in moves
 list_reads moves would shown old new keys made one list =
     without_effort (reads new.plan.reads) (plan_effort shown new.plan) (given_in moves) (reads old.plan.reads) (effort old.plan.stack.at.here shown) (held_rows old.plan.stack.at.row) keys (lost_in moves) (taken_in moves)
     (moves_spend moves would shown old new made one) (listing_effort old.plan.stack.at.here shown keys list)

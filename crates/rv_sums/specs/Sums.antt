@@ -3,7 +3,6 @@ use Rattle.std.specs.Prelude.{◌≡◌, ℕ, ◌+◌, ◌≤◌, true, List, []
 use Rattle.rv_keys.specs.Keys.{has_key}
 use Rattle.rv_judge.specs.declared.judging.Facts.{Facts}
 use Rattle.rv_judge.specs.declared.events.Control.TheVariants.{FinalList}
-use Rattle.rv_judge.specs.declared.events.Trace.{Trace}
 use Rattle.rv_judge.specs.Verdicts.{Ruling}
 use Rattle.rv_judge.specs.Counting.{reads}
 use Rattle.rv_catalog.specs.declared.def.IndexDef.{IndexDef}
@@ -25,8 +24,9 @@ use Rattle.rv_cursor.specs.Fetches.{lost_in}
 use Rattle.rv_cursor.specs.Left.{seen_by}
 use Rattle.rv_cursor.specs.Moves.{FetchMoves, Move, MovesByAll, Ruled, StepsBacks}
 use Rattle.rv_cursor.specs.Moves.Move.{Front, Lost, Take, Give}
-use Rattle.rv_core.specs.Obeying.{IsBounded}
+use Rattle.rv_core.specs.Obeying.{BeginsWithin}
 use Rattle.rv_core.specs.Short.{CallsMove, Held, lost_by}
+use Rattle.rv_bounded.specs.Bounds.{reads_told}
 
 -- the pieces that some moves take, and those that they give
 abbrev pub taken_of : Move → ℕ
@@ -70,18 +70,14 @@ MovesSpend =
     → MovesByAll moves would shown old new → IsAlone old.plan
     → spent shown new.plan + given_in moves ≤ spent shown old.plan + lost_in moves + taken_in moves
 
--- the reads that a trace tells
-abbrev pub told_reads : Trace → ℕ
-told_reads t = t.pages + t.leaves + t.fetches
-
 -- LAW: OVER ITS WHOLE LIFE a cursor over one FROM item reads at most the bound that it had at OPEN, but for these; whatever
 -- calls come, and whatever judges rule
 abbrev pub LifeIsBounded : Type 0
 LifeIsBounded =
     (s : Select) (indexes : List IndexDef) (calls : List (List Move)) (opened now : Held)
-    → IsBounded (seen_by opened.store opened.cursor) s indexes opened.cursor.snap opened.cursor.plan
+    → BeginsWithin (seen_by opened.store opened.cursor) s indexes opened.cursor.snap opened.cursor.plan
     → IsAlone opened.cursor.plan → CallsMove calls opened now
-    → told_reads (plan_trace now.cursor.plan) + given_by calls
+    → reads_told (plan_trace now.cursor.plan) + given_by calls
     ≤ plan_life s indexes (seen_by opened.store opened.cursor) opened.cursor.snap opened.cursor.plan
     + lost_by calls + taken_by calls
 
@@ -136,5 +132,5 @@ abbrev pub ListReadsFew : Type 0
 ListReadsFew =
     (moves : List Move) (would : ℕ → Facts → Ruling) (shown : Shown) (old new : Ruled) (keys : ℕ)
     → MovesByAll moves would shown old new → IsAlone old.plan → IsListing old.plan.stack.at.here keys
-    → told_reads (plan_trace new.plan) + given_in moves
-    ≤ told_reads (plan_trace old.plan) + keys + held_rows old.plan.stack.at.row + lost_in moves + taken_in moves
+    → reads_told (plan_trace new.plan) + given_in moves
+    ≤ reads_told (plan_trace old.plan) + keys + held_rows old.plan.stack.at.row + lost_in moves + taken_in moves

@@ -5,7 +5,7 @@ ghost use Rattle.std.specs.Option.{option_copied};
 ghost use Rattle.rv_text.specs.Values.{integer_at, integer_of, number_at, pieces_of, spaced_value, text_of, unquoted, value_at, value_before, value_cut, values_at, more_values};
 
 use itoa::Buffer;
-use rv_value::{Items, NoMemory, SharedText, Value};
+use rv_value::{NoMemory, SharedText, Value, Values};
 use std::alloc::Global;
 
 /// A number, where a text is what is written of it.
@@ -215,16 +215,19 @@ fn values_from(
 }
 
 /// The values of a row, joined by commas and spaces; None where the bytes are none.
-pub fn values(alloc: Global, text: &[u8]) -> Result<Option<Items<Value>>, NoMemory>
+pub fn values(alloc: Global, text: &[u8]) -> Result<Option<Values>, NoMemory>
     ensures { IfOk result (λ o. o ≡ values_at text.now) }
 {
     if text.is_empty() {
-        return Ok(Some(Items::new(alloc)));
+        return Ok(Some(Values::empty()));
     }
     let (piece, more) = cut_value(text);
     match value(alloc, piece)? {
         Some(first) => match values_from(alloc, first, more)? {
-            Some(values) => Ok(Some(Items::from_vec(values))),
+            Some(values) => {
+                let row = Values::of(alloc, values)?;
+                Ok(Some(row))
+            }
             None => Ok(None),
         },
         None => Ok(None),

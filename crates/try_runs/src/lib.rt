@@ -7,6 +7,8 @@ mod calls;
 #[cfg(test)]
 mod helped;
 #[cfg(test)]
+mod lends;
+#[cfg(test)]
 mod pieces;
 #[cfg(test)]
 mod refusals;

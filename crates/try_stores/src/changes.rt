@@ -1,5 +1,6 @@
 //! Deletions of rows, each as its table and its row: those before `then` are put at once, and the one behind it is put and
 //! taken back.
+use crate::told::Told;
 use rv_loading::{Fault, cut, number, small};
 use rv_rows::{Change, Changes};
 use rv_value::{Duplicate, NoMemory, RowNo, Values};
@@ -22,123 +23,121 @@ fn deletions(alloc: Global, text: &str) -> Result<Vec<Change>, Fault> {
     Ok(all)
 }
 
-/// A change as its table and row, marked where its copy is another.
-fn told_change(alloc: Global, change: &Change) -> Result<String, NoMemory> {
-    let mark = if change.copy(alloc)? == *change {
-        ""
-    } else {
-        "!"
-    };
-    Ok(format!(in alloc; " {}.{}{mark}", change.table, change.row.0)?)
+/// Whether the copy of a change is equal to it.
+fn is_copied(alloc: Global, change: &Change) -> Result<bool, NoMemory> {
+    let copy = change.copy(alloc)?;
+    let same = copy == *change;
+    drop(copy);
+    Ok(same)
 }
 
-/// The changes as `to_vec` gives them.
-fn told_copies(alloc: Global, changes: &[Change]) -> Result<String, NoMemory> {
-    let mut told = String::new(alloc);
+/// Tells a table and a row, and a mark.
+fn tell_row(told: &mut Told, table: u32, row: RowNo, mark: &str) {
+    told.with(" ", u64::from(table));
+    told.with(".", row.0);
+    told.word(mark);
+}
+
+/// Tells a change, marked where its copy is another.
+fn tell_change(alloc: Global, told: &mut Told, change: &Change) -> Result<(), NoMemory> {
+    let mark = if is_copied(alloc, change)? { "" } else { "!" };
+    tell_row(told, change.table, change.row, mark);
+    Ok(())
+}
+
+/// Tells changes as `to_vec` gives them.
+fn tell_copies(alloc: Global, told: &mut Told, changes: &[Change]) -> Result<(), NoMemory> {
     'changes: for change in changes {
-        let word = told_change(alloc, change)?;
-        told.push_str(word.as_str())?;
+        tell_change(alloc, told, change)?;
     }
-    Ok(told)
+    Ok(())
 }
 
-/// A change as its table and row, marked where it has values.
-fn told_entry(
-    alloc: Global,
-    table: u32,
-    row: RowNo,
-    values: &Option<Values>,
-) -> Result<String, NoMemory> {
+/// Tells a change, marked where it has values.
+fn tell_entry(told: &mut Told, table: u32, row: RowNo, values: &Option<Values>) {
     let mark = if values.is_none() { "" } else { "!" };
-    Ok(format!(in alloc; " {table}.{}{mark}", row.0)?)
+    tell_row(told, table, row, mark);
 }
 
-/// The changes as `parts` gives them, marked where they have values.
-fn told_entries(alloc: Global, changes: &Changes) -> Result<String, NoMemory> {
-    let mut told = String::new(alloc);
+/// Tells the changes as `parts` gives them, marked where they have values.
+fn tell_entries(told: &mut Told, changes: &Changes) {
     let (listed, mapped) = changes.parts();
     'listed: for change in listed {
-        let word = told_entry(alloc, change.table, change.row, &change.values)?;
-        told.push_str(word.as_str())?;
+        tell_entry(told, change.table, change.row, &change.values);
     }
     'mapped: for (key, values) in mapped {
-        let word = told_entry(alloc, key.table, key.row, values)?;
-        told.push_str(word.as_str())?;
+        tell_entry(told, key.table, key.row, values);
     }
-    Ok(told)
 }
 
-/// Which of the tables 0 to 3 are touched.
-fn told_tables(alloc: Global, changes: &Changes) -> Result<String, NoMemory> {
-    let mut told = String::new(alloc);
+/// Tells which of the tables 0 to 3 are touched.
+fn tell_tables(told: &mut Told, changes: &Changes) {
     'tables: for table in 0..4u32 {
         if changes.touches(table) {
-            let word = format!(in alloc; " {table}")?;
-            told.push_str(word.as_str())?;
+            told.with(" ", u64::from(table));
         }
     }
-    Ok(told)
 }
 
 fn word(has: bool) -> &'static str {
-    if has { "changed" } else { "not changed" }
+    if has { " changed" } else { " not changed" }
 }
 
-/// How many changes there are, which tables they touch, and whether a row is changed.
-fn told_facts(
-    alloc: Global,
-    changes: &Changes,
-    table: u32,
-    row: RowNo,
-) -> Result<String, NoMemory> {
-    let tables = told_tables(alloc, changes)?;
-    Ok(format!(in alloc;
-        ", {} in all, tables{}, {table}.{} {}",
-        changes.len(),
-        tables.as_str(),
-        row.0,
-        word(changes.has(table, row))
-    )?)
+/// Tells how many changes there are, which tables they touch, and whether a row is changed.
+fn tell_facts(told: &mut Told, changes: &Changes, table: u32, row: RowNo) {
+    told.with(", ", changes.len() as u64);
+    told.word(" in all, tables");
+    tell_tables(told, changes);
+    told.word(",");
+    tell_row(told, table, row, word(changes.has(table, row)));
 }
 
-fn told_all(alloc: Global, changes: &Changes, table: u32, row: RowNo) -> Result<String, NoMemory> {
+fn tell_all(alloc: Global, told: &mut Told, changes: &Changes) -> Result<(), NoMemory> {
     let all = changes.to_vec()?;
-    let mut told = told_copies(alloc, all.as_slice())?;
-    let facts = told_facts(alloc, changes, table, row)?;
-    told.push_str(facts.as_str())?;
-    Ok(told)
-}
-
-fn told_left(alloc: Global, changes: &Changes, table: u32, row: RowNo) -> Result<String, NoMemory> {
-    let mut told = told_entries(alloc, changes)?;
-    let facts = told_facts(alloc, changes, table, row)?;
-    told.push_str(facts.as_str())?;
-    Ok(told)
+    tell_copies(alloc, told, all.as_slice())
 }
 
 /// Puts a change, tells of all, and takes it back.
-fn told_with(alloc: Global, changes: &mut Changes, change: Change) -> Result<String, NoMemory> {
+fn tell_with(
+    alloc: Global,
+    told: &mut Told,
+    changes: &mut Changes,
+    change: Change,
+) -> Result<(), NoMemory> {
     let (table, row) = (change.table, change.row);
     let undo = changes.put(change)?;
-    let told = told_all(alloc, changes, table, row);
+    let done = tell_all(alloc, told, changes);
+    tell_facts(told, changes, table, row);
     changes.take_back(undo);
-    told
+    done
+}
+
+/// Puts the last change and takes it back, and tells of both.
+fn tell_last(
+    alloc: Global,
+    told: &mut Told,
+    changes: &mut Changes,
+    last: Change,
+) -> Result<(), NoMemory> {
+    let (table, row) = (last.table, last.row);
+    told.word("put");
+    let done = tell_with(alloc, told, changes, last);
+    told.word("; taken back");
+    tell_entries(told, changes);
+    tell_facts(told, changes, table, row);
+    done
 }
 
 /// Puts the first changes and then the last one, which is taken back.
-fn told_of(alloc: Global, changes: &mut Changes, first: &str, last: &str) -> Result<String, Fault> {
+fn act_all(alloc: Global, told: &mut Told, changes: &mut Changes, text: &str) -> Result<(), Fault> {
+    let (first, last) = text.split_once(" then ").ok_or(Fault::Form)?;
     changes.put_all(deletions(alloc, first)?)?;
-    let last = deletion(last)?;
-    let (table, row) = (last.table, last.row);
-    let with = told_with(alloc, changes, last)?;
-    let left = told_left(alloc, changes, table, row)?;
-    Ok(format!(in alloc; "put{}; taken back{}", with.as_str(), left.as_str())?)
+    Ok(tell_last(alloc, told, changes, deletion(last)?)?)
 }
 
-pub fn told(alloc: Global, text: &str) -> Result<String, Fault> {
-    let (first, last) = text.split_once(" then ").ok_or(Fault::Form)?;
+pub fn tell(alloc: Global, told: &mut Told, text: &str) -> Result<(), Fault> {
     let mut changes = Changes::new(alloc);
-    let told = told_of(alloc, &mut changes, first, last);
+    let done = act_all(alloc, told, &mut changes, text);
     drop(changes);
-    told
+    done
 }

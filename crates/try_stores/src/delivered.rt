@@ -1,7 +1,8 @@
 //! The set of delivered rows, full at its last place.
+use crate::told::Told;
 use rv_delivered::Delivered;
 use rv_loading::Fault;
-use rv_value::{NoMemory, RowNo};
+use rv_value::RowNo;
 use std::alloc::Global;
 
 /// Adds a row where there is room and it is not there, and tells whether it then was there and counted.
@@ -50,31 +51,27 @@ fn word(full: bool) -> &'static str {
     if full { "full" } else { "not full" }
 }
 
-fn told_set(alloc: Global, delivered: &Delivered) -> Result<String, NoMemory> {
-    let (count, word) = (delivered.len(), word(delivered.full()));
-    let empty = if delivered.is_empty() { "empty, " } else { "" };
-    Ok(format!(in alloc; "{empty}{count} rows, {word}, mix {}", mix(delivered))?)
+fn tell_set(told: &mut Told, delivered: &Delivered) {
+    if delivered.is_empty() {
+        told.word("empty, ");
+    }
+    told.number(delivered.len() as u64);
+    told.word(" rows, ");
+    told.word(word(delivered.full()));
+    told.with(", mix ", mix(delivered));
 }
 
-/// A set, and the same with so many rows that are added.
-fn told_of(
-    alloc: Global,
-    delivered: &mut Delivered,
-    count: u64,
-    is_mixed: bool,
-) -> Result<String, NoMemory> {
-    let before = told_set(alloc, delivered)?;
-    let well = add_all(delivered, count, is_mixed);
-    let after = told_set(alloc, delivered)?;
-    Ok(format!(in alloc;
-        "{}; {well} of {count} well, {}",
-        before.as_str(),
-        after.as_str()
-    )?)
+/// Tells of a set, and of the same with so many rows that are added.
+fn tell_more(told: &mut Told, delivered: &mut Delivered, count: u64, is_mixed: bool) {
+    tell_set(told, delivered);
+    told.with("; ", add_all(delivered, count, is_mixed));
+    told.with(" of ", count);
+    told.word(" well, ");
+    tell_set(told, delivered);
 }
 
 /// A new set, and the same with rows that are added `mixed` or `rising`.
-pub fn told(alloc: Global, text: &str) -> Result<String, Fault> {
+pub fn tell(alloc: Global, told: &mut Told, text: &str) -> Result<(), Fault> {
     let (count, is_mixed) = match text {
         "mixed" => (2000, true),
         "rising" => (1024, false),
@@ -82,7 +79,7 @@ pub fn told(alloc: Global, text: &str) -> Result<String, Fault> {
         _ => return Err(Fault::Form),
     };
     let mut delivered = Delivered::new(alloc)?;
-    let told = told_of(alloc, &mut delivered, count, is_mixed);
+    tell_more(told, &mut delivered, count, is_mixed);
     drop(delivered);
-    Ok(told?)
+    Ok(())
 }

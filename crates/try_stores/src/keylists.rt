@@ -1,6 +1,7 @@
 //! Key lists, to which keys are pushed from above down to 0.
 ghost use Rattle.std.specs.Prelude.{◌≡◌, IfOk, length, true, false};
 
+use crate::told::Told;
 use rv_keylist::{KeyList, Stage};
 use rv_loading::{Fault, cut, small};
 use rv_value::{NoMemory, RowNo};
@@ -41,53 +42,60 @@ fn stage_word(stage: Stage) -> &'static str {
     }
 }
 
-fn empty_word(empty: bool) -> &'static str {
-    if empty { "empty, " } else { "" }
-}
-
-/// The first and the last key that were pushed.
-fn told_ends(alloc: Global, list: &KeyList) -> Result<String, NoMemory> {
+/// Tells the first and the last key that were pushed.
+fn tell_ends(told: &mut Told, list: &KeyList) {
     let count = list.len();
     if count == 0 {
-        return Ok(format!(in alloc; "none")?);
+        return told.word("none");
     }
-    let (first, last) = (list.get(0).0, list.get(count - 1).0);
-    Ok(format!(in alloc; "{first} to {last}")?)
+    told.number(list.get(0).0);
+    told.with(" to ", list.get(count - 1).0);
 }
 
-fn told_finished(alloc: Global, list: &KeyList) -> Result<String, NoMemory>
+/// Tells how many keys a list has, and where they lie.
+fn tell_size(told: &mut Told, list: &KeyList) {
+    told.number(list.len());
+    told.word(" keys, ");
+    told.word(stage_word(list.stage()));
+    told.word(", ");
+}
+
+/// Tells of a list as it is pushed.
+fn tell_pushed(told: &mut Told, list: &KeyList) {
+    if list.is_empty() {
+        told.word("empty, ");
+    }
+    tell_size(told, list);
+    tell_ends(told, list);
+    told.word("; ");
+}
+
+/// Tells of a list as it is finished.
+fn tell_finished(told: &mut Told, list: &KeyList)
     requires { list.now.finished ≡ true }
 {
-    let (count, stage, well) = (list.len(), stage_word(list.stage()), in_place(list));
-    let beyond = if list.has(RowNo(count)) {
-        ", one more"
-    } else {
-        ""
-    };
-    Ok(format!(in alloc; "{count} keys, {stage}, {well} in place{beyond}")?)
+    tell_size(told, list);
+    told.number(in_place(list));
+    told.word(" in place");
+    if list.has(RowNo(list.len())) {
+        told.word(", one more");
+    }
 }
 
-/// A list as it is pushed, and as it is finished.
-fn told_list(alloc: Global, list: &mut KeyList) -> Result<String, NoMemory> {
-    let ends = told_ends(alloc, list)?;
-    let (count, stage) = (list.len(), stage_word(list.stage()));
-    let empty = empty_word(list.is_empty());
-    list.finish();
-    let finished = told_finished(alloc, list)?;
-    Ok(format!(in alloc;
-        "{empty}{count} keys, {stage}, {}; {}",
-        ends.as_str(),
-        finished.as_str()
-    )?)
+/// The list of so many keys, with so many places made before.
+fn listed(alloc: Global, text: &str) -> Result<KeyList, Fault> {
+    let (count, places) = cut(text, ' ')?;
+    Ok(pushed_down(alloc, small(count)?, small(places)?)?)
 }
 
 /// A list of so many keys, with so many places made before.
-pub fn told(alloc: Global, text: &str) -> Result<String, Fault> {
-    let (count, places) = cut(text, ' ')?;
-    let mut list = pushed_down(alloc, small(count)?, small(places)?)?;
-    let told = told_list(alloc, &mut list);
+pub fn tell(alloc: Global, told: &mut Told, text: &str) -> Result<(), Fault> {
+    let mut list = listed(alloc, text)?;
+    tell_pushed(told, &list);
+    list.finish();
+    tell_finished(told, &list);
     drop(list);
-    Ok(told?)
+    Ok(())
 }
 
 /// How many rows from its length to 99,999 a finished list may have, and how many it has.
@@ -107,10 +115,13 @@ fn probes(list: &KeyList) -> (u64, u64)
 }
 
 /// A finished list of so many keys, asked for the rows behind them.
-pub fn told_probes(alloc: Global, text: &str) -> Result<String, Fault> {
+pub fn tell_probes(alloc: Global, told: &mut Told, text: &str) -> Result<(), Fault> {
     let mut list = pushed_down(alloc, small(text)?, 0)?;
     list.finish();
     let (may, has) = probes(&list);
     drop(list);
-    Ok(format!(in alloc; "{may} may be there, {has} are")?)
+    told.number(may);
+    told.with(" may be there, ", has);
+    told.word(" are");
+    Ok(())
 }

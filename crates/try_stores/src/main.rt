@@ -6,52 +6,74 @@
 mod changes;
 mod delivered;
 mod keylists;
+mod list;
 mod nodes;
 mod paged;
 mod pieces;
 mod records;
 mod rows;
 mod scans;
+mod told;
 mod trees;
 mod values;
 mod versions;
 mod views;
+mod words;
 
+use crate::told::Told;
 use rv_loading::{Fault, told_or_fault};
 use std::alloc::Global;
 use std::io;
 
-/// What the words of a line find.
-fn answer(alloc: Global, line: &str) -> Result<String, Fault> {
+/// Tells what the words of a line find.
+fn answer(alloc: Global, told: &mut Told, line: &str) -> Result<(), Fault> {
     let (word, text) = line.split_once(": ").ok_or(Fault::Form)?;
     match word {
-        "rows" => rows::told(alloc, text),
-        "changes" => changes::told(alloc, text),
-        "versions" => versions::told(alloc, text),
-        "records" => records::told(alloc, text),
-        "children" => nodes::told_children(alloc, text),
-        "leaf" => nodes::told_leaf(alloc, text),
-        "list" => keylists::told(alloc, text),
-        "probes" => keylists::told_probes(alloc, text),
-        "delivered" => delivered::told(alloc, text),
+        "rows" => rows::tell(alloc, told, text),
+        "changes" => changes::tell(alloc, told, text),
+        "versions" => versions::tell(alloc, told, text),
+        "records" => records::tell(alloc, told, text),
+        "children" => nodes::tell_children(alloc, told, text),
+        "leaf" => nodes::tell_leaf(alloc, told, text),
+        "list" => keylists::tell(alloc, told, text),
+        "probes" => keylists::tell_probes(alloc, told, text),
+        "delivered" => delivered::tell(alloc, told, text),
         _ => Err(Fault::Form),
     }
+}
+
+fn answered(alloc: Global, line: &str) -> Result<String, Fault> {
+    let mut told = Told::new(alloc);
+    let done = answer(alloc, &mut told, line);
+    told.finish(done)
 }
 
 fn tell_lines(rt: &HostRuntime) -> io::Result<()> {
     'lines: for line in rt.lines(rt.alloc()) {
         let line = line?;
-        let told = answer(rt.alloc(), line.as_str());
+        let told = answered(rt.alloc(), line.as_str());
         println!(rt; "{};{}", line.as_str(), told_or_fault(&told))?;
     }
     Ok(())
 }
 
+/// Tells the parts that stand behind the lines.
+fn tell_parts(alloc: Global, told: &mut Told) -> Result<(), Fault> {
+    trees::tell(alloc, told)?;
+    paged::tell(alloc, told)?;
+    scans::tell(alloc, told)?;
+    pieces::tell(alloc, told)?;
+    views::tell(alloc, told)
+}
+
+fn parts(alloc: Global) -> Result<String, Fault> {
+    let mut told = Told::new(alloc);
+    let done = tell_parts(alloc, &mut told);
+    told.finish(done)
+}
+
 fn main(rt: HostRuntime) -> io::Result<()> {
     tell_lines(&rt)?;
-    trees::write(&rt)?;
-    paged::write(&rt)?;
-    scans::write(&rt)?;
-    pieces::write(&rt)?;
-    views::write(&rt)
+    let told = parts(rt.alloc());
+    print!(rt; "{}", told_or_fault(&told))
 }

@@ -1,7 +1,8 @@
 //! Nodes of an index tree over keys of one number.
 ghost use Rattle.std.specs.Prelude.{◌≡◌, length};
 
-use crate::values::told_first;
+use crate::told::Told;
+use crate::values::tell_first;
 use rv_loading::{Fault, cut, integer};
 use rv_node::Node;
 use rv_value::{Bound, Duplicate, IndexEntry, Key, NoMemory, Range, RowNo, Value};
@@ -18,38 +19,52 @@ fn entry(alloc: Global, first: i64) -> Result<IndexEntry, NoMemory> {
     })
 }
 
+/// A closed bound or an open one.
+fn bound_at(alloc: Global, number: &str, closed: bool) -> Result<Option<Bound>, Fault> {
+    let key = key(alloc, integer(number)?)?;
+    Ok(Some(Bound { key, closed }))
+}
+
 /// `-` for no bound, a number behind `[` for a closed one, a number behind `(` for an open one.
 fn bound(alloc: Global, word: &str) -> Result<Option<Bound>, Fault> {
     if word == "-" {
         return Ok(None);
     }
     if let Some(number) = word.strip_prefix("[") {
-        let key = key(alloc, integer(number)?)?;
-        return Ok(Some(Bound { key, closed: true }));
+        return bound_at(alloc, number, true);
     }
     match word.strip_prefix("(") {
-        Some(number) => {
-            let key = key(alloc, integer(number)?)?;
-            Ok(Some(Bound { key, closed: false }))
-        }
+        Some(number) => bound_at(alloc, number, false),
         None => Err(Fault::Form),
     }
 }
 
 fn range(alloc: Global, text: &str) -> Result<Range, Fault> {
     let (low, high) = cut(text, ' ')?;
-    Ok(Range {
-        low: bound(alloc, low)?,
-        high: bound(alloc, high)?,
-        starts: false,
-    })
+    let low = bound(alloc, low)?;
+    match bound(alloc, high) {
+        Ok(high) => Ok(Range {
+            low,
+            high,
+            starts: false,
+        }),
+        Err(fault) => {
+            drop(low);
+            Err(fault)
+        }
+    }
+}
+
+fn add_low(alloc: Global, entries: &mut Vec<IndexEntry>, word: &str) -> Result<(), Fault> {
+    let entry = entry(alloc, integer(word)?)?;
+    Ok(entries.push(entry)?)
 }
 
 /// The low entries of a node's children.
 fn lows(alloc: Global, text: &str) -> Result<Vec<IndexEntry>, Fault> {
     let mut entries = Vec::new(alloc);
     'words: for word in text.split(' ') {
-        entries.push(entry(alloc, integer(word)?)?)?;
+        add_low(alloc, &mut entries, word)?;
     }
     Ok(entries)
 }
@@ -77,65 +92,63 @@ fn parent(alloc: Global, entries: Vec<IndexEntry>) -> Result<Node, Fault>
     Ok(Node::make(1, entries, children))
 }
 
-fn told_between(alloc: Global, entries: Vec<IndexEntry>, range: &Range) -> Result<String, Fault> {
+fn tell_between(
+    alloc: Global,
+    told: &mut Told,
+    entries: Vec<IndexEntry>,
+    range: &Range,
+) -> Result<(), Fault> {
     let node = parent(alloc, entries)?;
     let (first, last) = node.children_for(range);
     let (entries, children) = node.into_parts();
-    Ok(format!(in alloc;
-        "{first} to {last}, {} entries and {} children",
-        entries.len(),
-        children.len()
-    )?)
+    told.number(first as u64);
+    told.with(" to ", last as u64);
+    told.with(", ", entries.len() as u64);
+    told.with(" entries and ", children.len() as u64);
+    told.word(" children");
+    Ok(())
 }
 
 /// The places of the first and the last child that may have keys of a range, and how many entries and children the node gives
 /// back: low entries, ` in ` and the bounds.
-pub fn told_children(alloc: Global, text: &str) -> Result<String, Fault> {
+pub fn tell_children(alloc: Global, told: &mut Told, text: &str) -> Result<(), Fault> {
     let (entries, bounds) = text.split_once(" in ").ok_or(Fault::Form)?;
     let entries = lows(alloc, entries)?;
     let range = range(alloc, bounds)?;
-    let told = told_between(alloc, entries, &range);
+    let done = tell_between(alloc, told, entries, &range);
     drop(range);
-    told
+    done
 }
 
-/// The level of a node, and the first values of its keys.
-fn told_node(alloc: Global, node: &Node) -> Result<String, NoMemory> {
-    let mut told = format!(in alloc;
-        "level {}, children {}, keys",
-        node.level(),
-        node.children().len()
-    )?;
+/// Tells the level of a node, and the first values of its keys.
+fn tell_node(told: &mut Told, node: &Node) {
+    told.with("level ", u64::from(node.level()));
+    told.with(", children ", node.children().len() as u64);
+    told.word(", keys");
     'entries: for entry in node.entries() {
-        let word = told_entry(alloc, entry)?;
-        told.push_str(word.as_str())?;
+        told.word(" ");
+        tell_first(told, entry.key.as_slice());
     }
-    Ok(told)
 }
 
 /// The same of a copy of a leaf, which goes.
-fn told_copy(alloc: Global, leaf: Node) -> Result<String, NoMemory> {
+fn tell_copy(alloc: Global, told: &mut Told, leaf: Node) -> Result<(), Fault> {
     let copy = leaf.copy(alloc);
     drop(leaf);
     let copy = copy?;
-    let told = told_node(alloc, &copy);
+    tell_node(told, &copy);
     drop(copy);
-    told
-}
-
-fn told_entry(alloc: Global, entry: &IndexEntry) -> Result<String, NoMemory> {
-    let value = told_first(alloc, entry.key.as_slice())?;
-    Ok(format!(in alloc; " {}", value.as_str())?)
+    Ok(())
 }
 
 /// A leaf of some keys, or the empty leaf for `none`, and its copy.
-pub fn told_leaf(alloc: Global, text: &str) -> Result<String, Fault> {
+pub fn tell_leaf(alloc: Global, told: &mut Told, text: &str) -> Result<(), Fault> {
     if text == "none" {
-        return Ok(told_copy(alloc, Node::leaf(alloc))?);
+        return tell_copy(alloc, told, Node::leaf(alloc));
     }
     let entries = lows(alloc, text)?;
     if entries.len() > 32 {
         return Err(Fault::Form);
     }
-    Ok(told_copy(alloc, Node::make(0, entries, Vec::new(alloc)))?)
+    tell_copy(alloc, told, Node::make(0, entries, Vec::new(alloc)))
 }

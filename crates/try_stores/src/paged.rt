@@ -16,13 +16,13 @@ use crate::paged::compare::{
 };
 use crate::paged::generate::changes_of;
 use crate::paged::kinds::{Kinds, count_kinds};
-use crate::paged::shape::{leaves_line, range_line};
+use crate::paged::shape::{tell_leaves, tell_range};
 use crate::paged::twins::Twins;
-use rv_loading::{Fault, write_lines};
+use crate::told::Told;
+use rv_loading::Fault;
 use rv_reader::Change;
 use rv_value::NoMemory;
 use std::alloc::Global;
-use std::io;
 
 /// What was done so far.
 #[derive(Drop)]
@@ -62,8 +62,7 @@ fn commit_all(alloc: Global, run: &mut Run, changes: &[Change]) -> Result<(), Fa
     run.twins.commit(changes)?;
     compare_changed(alloc, &run.twins, changes, &mut run.tally)?;
     let newest = run.twins.layout.newest;
-    compare_snapshot(alloc, &run.twins, newest, &mut run.tally)?;
-    Ok(())
+    Ok(compare_snapshot(alloc, &run.twins, newest, &mut run.tally)?)
 }
 
 /// Ten commits, all kept snapshots compared, all but the newest few let go, and those compared.
@@ -77,8 +76,7 @@ fn run_ten(alloc: Global, run: &mut Run, first: u64) -> Result<(), Fault>
     }
     compare_snapshots(alloc, &run.twins, &mut run.tally)?;
     sweep_to(&mut run.twins, first + 7);
-    compare_snapshots(alloc, &run.twins, &mut run.tally)?;
-    Ok(())
+    Ok(compare_snapshots(alloc, &run.twins, &mut run.tally)?)
 }
 
 /// Sixty-four sweeps.
@@ -121,113 +119,97 @@ fn run_all(alloc: Global, run: &mut Run) -> Result<(), Fault>
 
 fn name(what: What) -> &'static str {
     match what {
-        What::Sizes => "sizes of table",
-        What::Rows => "rows of table",
-        What::Row => "a row of table",
-        What::Entries => "entries of index",
-        What::Estimate => "an estimate of index",
+        What::Sizes => "sizes of table ",
+        What::Rows => "rows of table ",
+        What::Row => "a row of table ",
+        What::Entries => "entries of index ",
+        What::Estimate => "an estimate of index ",
     }
 }
 
-fn first_line(alloc: Global, tally: &Tally) -> Result<String, NoMemory> {
-    match tally.first {
-        None => Ok(String::from_str(alloc, "same")?),
-        Some(first) => difference_line(alloc, first),
+fn tell_first(told: &mut Told, first: Option<Difference>) {
+    match first {
+        None => told.word("same"),
+        Some(first) => tell_difference(told, first),
     }
+    told.word("\n");
 }
 
-fn difference_line(alloc: Global, first: Difference) -> Result<String, NoMemory> {
-    Ok(format!(in alloc;
-        "first difference: {} {} at {}",
-        name(first.what),
-        first.number,
-        first.snap
-    )?)
+fn tell_difference(told: &mut Told, first: Difference) {
+    told.word("first difference: ");
+    told.with(name(first.what), u64::from(first.number));
+    told.with(" at ", first.snap);
 }
 
-fn add_index(
-    alloc: Global,
-    twins: &Twins,
-    index: u32,
-    lines: &mut Vec<String>,
-) -> Result<(), NoMemory>
+fn tell_index(alloc: Global, told: &mut Told, twins: &Twins, index: u32) -> Result<(), NoMemory>
     requires laid { AreLaid twins.now }
     requires there { index < twins.now.layout.indexes }
 {
-    lines.push(leaves_line(alloc, twins, index)?)?;
+    tell_leaves(alloc, told, twins, index)?;
     'ranges: for (low, high) in [(7, 7), (50, 99), (100, 299), (299, 100), (0, 999)] {
-        lines.push(range_line(alloc, twins, index, low, high)?)?;
+        tell_range(alloc, told, twins, index, low, high)?;
     }
     Ok(())
 }
 
-fn add_indexes(alloc: Global, twins: &Twins, lines: &mut Vec<String>) -> Result<(), NoMemory>
+fn tell_indexes(alloc: Global, told: &mut Told, twins: &Twins) -> Result<(), NoMemory>
     requires { AreLaid twins.now }
 {
     'indexes: for index in 0..twins.layout.indexes {
-        add_index(alloc, twins, index, lines)?;
+        tell_index(alloc, told, twins, index)?;
     }
     Ok(())
 }
 
-fn commits_line(alloc: Global, newest: u64, kinds: Kinds) -> Result<String, NoMemory> {
-    Ok(format!(in alloc;
-        "{newest} commits: {} inserts, {} updates, {} deletes, {} of no row",
-        kinds.inserts, kinds.updates, kinds.deletes, kinds.none
-    )?)
+fn tell_commits(told: &mut Told, newest: u64, kinds: Kinds) {
+    told.number(newest);
+    told.with(" commits: ", kinds.inserts);
+    told.with(" inserts, ", kinds.updates);
+    told.with(" updates, ", kinds.deletes);
+    told.with(" deletes, ", kinds.none);
+    told.word(" of no row\n");
 }
 
-fn add_tally(alloc: Global, tally: &Tally, lines: &mut Vec<String>) -> Result<(), NoMemory> {
-    lines.push(rows_line(alloc, tally)?)?;
-    lines.push(entries_line(alloc, tally)?)?;
-    lines.push(estimates_line(alloc, tally)?)?;
-    lines.push(first_line(alloc, tally)?)?;
-    Ok(())
+fn tell_rows(told: &mut Told, tally: &Tally) {
+    told.number(tally.snapshots);
+    told.with(" snapshots: ", tally.rows);
+    told.with(" rows, ", tally.fetches);
+    told.word(" fetches\n");
 }
 
-fn rows_line(alloc: Global, tally: &Tally) -> Result<String, NoMemory> {
-    Ok(format!(in alloc;
-        "{} snapshots: {} rows, {} fetches",
-        tally.snapshots, tally.rows, tally.fetches
-    )?)
+fn tell_entries(told: &mut Told, tally: &Tally) {
+    told.number(tally.entries);
+    told.with(" entries in ", tally.paged_leaves);
+    told.with(" leaves, in the plain store in ", tally.plain_leaves);
+    told.word("\n");
 }
 
-fn entries_line(alloc: Global, tally: &Tally) -> Result<String, NoMemory> {
-    Ok(format!(in alloc;
-        "{} entries in {} leaves, in the plain store in {}",
-        tally.entries, tally.paged_leaves, tally.plain_leaves
-    )?)
-}
-
-fn estimates_line(alloc: Global, tally: &Tally) -> Result<String, NoMemory> {
-    Ok(format!(in alloc; "{} exact estimates", tally.exact)?)
+fn tell_tally(told: &mut Told, tally: &Tally) {
+    tell_rows(told, tally);
+    tell_entries(told, tally);
+    told.number(tally.exact);
+    told.word(" exact estimates\n");
+    tell_first(told, tally.first);
 }
 
 /// Does all, and tells of it.
-fn lines_of(alloc: Global, run: &mut Run) -> Result<Vec<String>, Fault>
+fn tell_all(alloc: Global, told: &mut Told, run: &mut Run) -> Result<(), Fault>
     requires { AreLaid run.old.twins }
 {
     run_all(alloc, run)?;
-    let mut lines = Vec::new(alloc);
-    lines.push(commits_line(alloc, run.twins.layout.newest, run.kinds)?)?;
-    add_tally(alloc, &run.tally, &mut lines)?;
-    add_indexes(alloc, &run.twins, &mut lines)?;
-    Ok(lines)
+    tell_commits(told, run.twins.layout.newest, run.kinds);
+    tell_tally(told, &run.tally);
+    Ok(tell_indexes(alloc, told, &run.twins)?)
 }
 
-fn all_lines(alloc: Global) -> Result<Vec<String>, Fault> {
+/// Tells all of it.
+pub fn tell(alloc: Global, told: &mut Told) -> Result<(), Fault> {
     let mut run = Run {
         twins: Twins::new(alloc)?,
         kinds: Kinds::new(),
         tally: Tally::new(),
     };
-    let lines = lines_of(alloc, &mut run);
+    let done = tell_all(alloc, told, &mut run);
     drop(run);
-    lines
-}
-
-/// Writes all of it.
-pub fn write(rt: &HostRuntime) -> io::Result<()> {
-    let lines = all_lines(rt.alloc());
-    write_lines(rt, &lines)
+    done
 }

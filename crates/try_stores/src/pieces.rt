@@ -9,36 +9,30 @@ mod load;
 mod table;
 
 use crate::pieces::load::load_rows;
-use crate::pieces::table::add_table;
+use crate::pieces::table::tell_table;
+use crate::told::Told;
 use rv_judge::Uncounted;
-use rv_loading::{Fault, write_lines};
+use rv_loading::Fault;
 use rv_plain::Plain;
 use rv_reader::{Reader, Store};
 use std::alloc::Global;
-use std::io;
 
-/// The lines of the table over an empty store.
-fn lines_over<S: Store + Reader<Ledger = Uncounted>>(
+/// Tells the table over an empty store.
+fn tell_over<S: Store + Reader<Ledger = Uncounted>>(
     alloc: Global,
+    told: &mut Told,
     store: &mut S,
-) -> Result<Vec<String>, Fault>
+) -> Result<(), Fault>
     requires { IsEmpty (S.shown store.old) }
 {
-    let mut lines = Vec::new(alloc);
     let snap = load_rows(alloc, store, 80)?;
-    add_table(alloc, store, snap, &mut lines)?;
-    Ok(lines)
+    Ok(tell_table(alloc, told, store, snap)?)
 }
 
-fn all_lines(alloc: Global) -> Result<Vec<String>, Fault> {
+/// Tells all of it.
+pub fn tell(alloc: Global, told: &mut Told) -> Result<(), Fault> {
     let mut store = Plain::new(alloc)?;
-    let lines = lines_over(alloc, &mut store);
+    let done = tell_over(alloc, told, &mut store);
     drop(store);
-    lines
-}
-
-/// Writes all of it.
-pub fn write(rt: &HostRuntime) -> io::Result<()> {
-    let lines = all_lines(rt.alloc());
-    write_lines(rt, &lines)
+    done
 }

@@ -5,10 +5,12 @@ ghost use Rattle.std.specs.Prelude.{◌≡◌, ◌+◌, ◌<◌, ◌≤◌, IfOk
 ghost use Rattle.rv_records.specs.Pages.{IsBelow};
 ghost use Rattle.try_stores.specs.Clocked.{Stands};
 
-use crate::values::told_first;
+use crate::told::Told;
+use crate::values::{one_value, tell_first};
+use crate::words::pair;
 use rv_loading::{Fault, cut, integer, number, small};
 use rv_records::Records;
-use rv_value::{NoMemory, Record, RowNo, Value, Values};
+use rv_value::{NoMemory, Record, RowNo, Values};
 use std::alloc::Global;
 
 /// The last commit, and the horizon.
@@ -22,9 +24,7 @@ fn values(alloc: Global, word: &str) -> Result<Option<Values>, Fault> {
     if word == "-" {
         return Ok(None);
     }
-    let number = integer(word)?;
-    let values = vec![in alloc; Value::Int(number)]?;
-    Ok(Some(Values::of(alloc, values)?))
+    Ok(Some(one_value(alloc, integer(word)?)?))
 }
 
 /// Gives a row a value at a commit, or takes it away.
@@ -37,8 +37,7 @@ fn change(alloc: Global, records: &mut Records, commit: u64, word: &str) -> Resu
     let (row, value) = cut(word, '=')?;
     let row = RowNo(u64::from(small(row)?));
     let values = values(alloc, value)?;
-    records.put(row, values, commit)?;
-    Ok(())
+    Ok(records.put(row, values, commit)?)
 }
 
 /// Makes the changes of a commit.
@@ -86,8 +85,7 @@ fn purge(records: &mut Records, clock: Clock, text: &str) -> Result<Clock, Fault
     requires stands { Stands clock.last clock.horizon records.old }
     ensures { IfOk result (λ next. Stands next.last next.horizon records.new) }
 {
-    let (page, horizon) = cut(text, ' ')?;
-    let (page, horizon) = (small(page)?, number(horizon)?);
+    let (page, horizon) = pair(text)?;
     if horizon < clock.horizon || horizon > clock.last {
         return Err(Fault::Form);
     }
@@ -98,111 +96,119 @@ fn purge(records: &mut Records, clock: Clock, text: &str) -> Result<Clock, Fault
     })
 }
 
-fn told_record(alloc: Global, record: &Record) -> Result<String, NoMemory> {
-    let value = told_first(alloc, record.values.as_slice())?;
-    Ok(format!(in alloc; " {}={}", record.row.0, value.as_str())?)
+fn tell_record(told: &mut Told, record: &Record) {
+    told.with(" ", record.row.0);
+    told.word("=");
+    tell_first(told, record.values.as_slice());
 }
 
-fn tell_page(
-    alloc: Global,
-    records: &Records,
-    told: &mut String,
-    n: u32,
-    snap: u64,
-) -> Result<(), NoMemory>
+fn tell_records(told: &mut Told, rows: &[Record]) {
+    'rows: for record in rows {
+        tell_record(told, record);
+    }
+}
+
+fn tell_some(told: &mut Told, found: &Option<Record>) {
+    if let Some(record) = found {
+        tell_record(told, record);
+    }
+}
+
+fn tell_page(records: &Records, told: &mut Told, n: u32, snap: u64) -> Result<(), NoMemory>
     requires { records.now.horizon ≤ snap }
 {
     let page = records.page(n, snap)?;
-    'rows: for record in page.as_slice() {
-        let word = told_record(alloc, record)?;
-        told.push_str(word.as_str())?;
-    }
+    tell_records(told, page.as_slice());
     Ok(())
 }
 
-fn tell_row(
-    alloc: Global,
-    records: &Records,
-    told: &mut String,
-    row: u64,
-    snap: u64,
-) -> Result<(), NoMemory>
+fn tell_row(records: &Records, told: &mut Told, row: u64, snap: u64) -> Result<(), NoMemory>
     requires { records.now.horizon ≤ snap }
 {
-    if let Some(record) = records.fetch(RowNo(row), snap)? {
-        let word = told_record(alloc, &record)?;
-        told.push_str(word.as_str())?;
-    }
+    let found = records.fetch(RowNo(row), snap)?;
+    tell_some(told, &found);
+    drop(found);
     Ok(())
 }
 
 /// The rows of the pages 0 to 5.
-fn tell_pages(
-    alloc: Global,
-    records: &Records,
-    told: &mut String,
-    snap: u64,
-) -> Result<(), NoMemory>
+fn tell_pages(records: &Records, told: &mut Told, snap: u64) -> Result<(), NoMemory>
     requires { records.now.horizon ≤ snap }
 {
     'pages: for n in 0..6u32 {
-        tell_page(alloc, records, told, n, snap)?;
-        told.push_str(" |")?;
+        tell_page(records, told, n, snap)?;
+        told.word(" |");
     }
     Ok(())
 }
 
 /// The rows 0 to 191, fetched.
-fn tell_rows(alloc: Global, records: &Records, told: &mut String, snap: u64) -> Result<(), NoMemory>
+fn tell_rows(records: &Records, told: &mut Told, snap: u64) -> Result<(), NoMemory>
     requires { records.now.horizon ≤ snap }
 {
     'rows: for row in 0..192u64 {
-        tell_row(alloc, records, told, row, snap)?;
+        tell_row(records, told, row, snap)?;
     }
     Ok(())
 }
 
 /// How many pages and rows there are at a snapshot, its rows page by page, and fetched one by one.
-fn show(alloc: Global, records: &Records, told: &mut String, snap: u64) -> Result<(), NoMemory>
+fn show(records: &Records, told: &mut Told, snap: u64) -> Result<(), NoMemory>
     requires { records.now.horizon ≤ snap }
 {
     let sizes = records.sizes(snap);
-    let word = format!(in alloc; "; {} pages, {} rows,", sizes.pages, sizes.rows)?;
-    told.push_str(word.as_str())?;
-    tell_pages(alloc, records, told, snap)?;
-    told.push_str(" fetched")?;
-    tell_rows(alloc, records, told, snap)
+    told.with("; ", u64::from(sizes.pages));
+    told.with(" pages, ", sizes.rows);
+    told.word(" rows,");
+    tell_pages(records, told, snap)?;
+    told.word(" fetched");
+    tell_rows(records, told, snap)
 }
 
-/// Tells what a snapshot shows.
-fn tell(
-    alloc: Global,
-    records: &Records,
-    clock: Clock,
-    told: &mut String,
-    word: &str,
-    text: &str,
-) -> Result<(), Fault>
-    requires stands { Stands clock.last clock.horizon records.now }
+fn fetch(records: &Records, told: &mut Told, row: u64, snap: u64) -> Result<(), NoMemory>
+    requires { records.now.horizon ≤ snap }
+{
+    told.word("; fetched");
+    tell_row(records, told, row, snap)
+}
+
+fn page(records: &Records, told: &mut Told, n: u32, snap: u64) -> Result<(), NoMemory>
+    requires { records.now.horizon ≤ snap }
+{
+    told.word("; page");
+    tell_page(records, told, n, snap)
+}
+
+/// The number of what is told, and a snapshot from the horizon on.
+fn place(clock: Clock, text: &str) -> Result<(u64, u64), Fault>
+    ensures { IfOk result (λ place. clock.horizon ≤ place.1) }
 {
     let (number_of, snap) = text.split_once(' ').unwrap_or(("0", text));
     let snap = number(snap)?;
     if snap < clock.horizon {
         return Err(Fault::Form);
     }
-    match word {
-        "show" => show(alloc, records, told, snap)?,
-        "fetch" => {
-            told.push_str("; fetched")?;
-            tell_row(alloc, records, told, number(number_of)?, snap)?;
-        }
-        "page" => {
-            told.push_str("; page")?;
-            tell_page(alloc, records, told, small(number_of)?, snap)?;
-        }
+    Ok((number(number_of)?, snap))
+}
+
+/// Tells what a snapshot shows.
+fn tell_at(
+    records: &Records,
+    clock: Clock,
+    told: &mut Told,
+    word: &str,
+    text: &str,
+) -> Result<(), Fault>
+    requires stands { Stands clock.last clock.horizon records.now }
+{
+    let (row, snap) = place(clock, text)?;
+    let done = match word {
+        "show" => show(records, told, snap),
+        "fetch" => fetch(records, told, row, snap),
+        "page" if row < 4294967296 => page(records, told, row as u32, snap),
         _ => return Err(Fault::Form),
-    }
-    Ok(())
+    };
+    Ok(done?)
 }
 
 /// Does an act.
@@ -210,7 +216,7 @@ fn act(
     alloc: Global,
     records: &mut Records,
     clock: Clock,
-    told: &mut String,
+    told: &mut Told,
     text: &str,
 ) -> Result<Clock, Fault>
     requires stands { Stands clock.last clock.horizon records.old }
@@ -224,30 +230,33 @@ fn act(
         "commit" => commit(alloc, records, clock, rest),
         "purge" => purge(records, clock, rest),
         _ => {
-            tell(alloc, records, clock, told, word, rest)?;
+            tell_at(records, clock, told, word, rest)?;
             Ok(clock)
         }
     }
 }
 
 /// Does acts, and tells what they find.
-fn told_of(alloc: Global, records: &mut Records, text: &str) -> Result<String, Fault>
+fn act_all(alloc: Global, records: &mut Records, told: &mut Told, text: &str) -> Result<(), Fault>
     requires { Stands 0 0 records.old }
 {
-    let mut told = String::new(alloc);
     let mut clock = Clock {
         last: 0,
         horizon: 0,
     };
     'acts: for text in text.split(", ") {
-        clock = act(alloc, records, clock, &mut told, text)?;
+        clock = act(alloc, records, clock, told, text)?;
     }
-    Ok(format!(in alloc; "{} places{}", records.len(), told.as_str())?)
+    Ok(())
 }
 
-pub fn told(alloc: Global, text: &str) -> Result<String, Fault> {
+/// What acts find, in words, behind how many places there are then.
+pub fn tell(alloc: Global, told: &mut Told, text: &str) -> Result<(), Fault> {
     let mut records = Records::new(alloc);
-    let told = told_of(alloc, &mut records, text);
+    let mut found = Told::new(alloc);
+    let done = act_all(alloc, &mut records, &mut found, text);
+    told.number(records.len() as u64);
+    told.word(" places");
     drop(records);
-    told
+    told.append(found, done)
 }

@@ -1,24 +1,30 @@
 //! Rows by number: `put N`, `remove N` and `copy`, parted by commas; then the rows, and those of the last copy.
+use crate::told::Told;
+use crate::values::one_value;
 use rv_loading::{Fault, number};
 use rv_rows::Rows;
-use rv_value::{Duplicate, NoMemory, Record, RowNo, Value, Values};
+use rv_value::{Duplicate, NoMemory, Record, RowNo};
 use std::alloc::Global;
+use std::mem;
 
 fn record(alloc: Global, row: u64) -> Result<Record, NoMemory> {
     Ok(Record {
         row: RowNo(row),
-        values: Values::of(alloc, vec![in alloc; Value::Int(1)]?)?,
+        values: one_value(alloc, 1)?,
     })
+}
+
+fn put(alloc: Global, rows: &mut Rows, row: u64) -> Result<(), NoMemory> {
+    rows.put(record(alloc, row)?)
 }
 
 fn act(alloc: Global, rows: &mut Rows, copy: &mut Rows, text: &str) -> Result<(), Fault> {
     if text == "copy" {
-        *copy = rows.copy(alloc)?;
+        drop(mem::replace(copy, rows.copy(alloc)?));
         return Ok(());
     }
     if let Some(row) = text.strip_prefix("put ") {
-        rows.put(record(alloc, number(row)?)?)?;
-        return Ok(());
+        return Ok(put(alloc, rows, number(row)?)?);
     }
     match text.strip_prefix("remove ") {
         Some(row) => {
@@ -29,14 +35,11 @@ fn act(alloc: Global, rows: &mut Rows, copy: &mut Rows, text: &str) -> Result<()
     }
 }
 
-/// The numbers of rows, each behind a space.
-fn numbers(alloc: Global, rows: &[Record]) -> Result<String, NoMemory> {
-    let mut told = String::new(alloc);
+/// Tells the numbers of rows, each behind a space.
+fn tell_numbers(told: &mut Told, rows: &[Record]) {
     'rows: for row in rows {
-        let word = format!(in alloc; " {}", row.row.0)?;
-        told.push_str(word.as_str())?;
+        told.with(" ", row.row.0);
     }
-    Ok(told)
 }
 
 /// Does acts on rows and a copy of them.
@@ -47,22 +50,19 @@ fn act_all(alloc: Global, rows: &mut Rows, copy: &mut Rows, text: &str) -> Resul
     Ok(())
 }
 
-fn told_both(alloc: Global, rows: &Rows, copy: &Rows) -> Result<String, NoMemory> {
-    let all = numbers(alloc, rows.as_slice())?;
-    let before = numbers(alloc, copy.as_slice())?;
-    Ok(format!(in alloc; "rows{}, copy{}", all.as_str(), before.as_str())?)
+fn tell_both(told: &mut Told, rows: &Rows, copy: &Rows) {
+    told.word("rows");
+    tell_numbers(told, rows.as_slice());
+    told.word(", copy");
+    tell_numbers(told, copy.as_slice());
 }
 
-fn told_of(alloc: Global, rows: &mut Rows, copy: &mut Rows, text: &str) -> Result<String, Fault> {
-    act_all(alloc, rows, copy, text)?;
-    Ok(told_both(alloc, rows, copy)?)
-}
-
-pub fn told(alloc: Global, text: &str) -> Result<String, Fault> {
+pub fn tell(alloc: Global, told: &mut Told, text: &str) -> Result<(), Fault> {
     let mut rows = Rows::new(alloc);
     let mut copy = Rows::new(alloc);
-    let told = told_of(alloc, &mut rows, &mut copy, text);
+    let done = act_all(alloc, &mut rows, &mut copy, text);
+    tell_both(told, &rows, &copy);
     drop(rows);
     drop(copy);
-    told
+    done
 }

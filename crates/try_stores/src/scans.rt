@@ -1,54 +1,57 @@
-//! Drives each scan to its end over a plain store of eighty rows, at three snapshots, and writes what it gives; then it
-//! refuses each single call from the first to the sixtieth while the store is loaded and read, and writes whether the
+//! Drives each scan to its end over a plain store of eighty rows, at three snapshots, and tells what it gives; then it
+//! refuses each single call from the first to the sixtieth while the store is loaded and read, and tells whether the
 //! scans give the same. The file `stdout` has what tools/try_scans.py finds by the rules in words.
+ghost use Rattle.std.specs.Prelude.{IfOk};
 ghost use Rattle.rv_loading.specs.Laid.{IsEmpty, Laid};
+ghost use Rattle.rv_plain.specs.Kept as plain;
 
 mod drive;
-mod lines;
+mod given;
 mod load;
 mod look;
 
-use crate::scans::lines::add_all;
+use crate::scans::given::tell_at;
 use crate::scans::load::load;
 use crate::scans::look::{Given, is_whole, look};
+use crate::told::Told;
 use rv_judge::Uncounted;
-use rv_loading::{Fault, Loaded, may_read, sweep, write_lines};
+use rv_loading::{Fault, Loaded, may_read, sweep};
 use rv_plain::{Plain, Refusing};
 use rv_reader::{Reader, Store};
 use rv_scan::Skip;
+use rv_value::NoMemory;
 use std::alloc::Global;
-use std::io;
 
 /// The lines of the snapshot before the last commit, of the last one, and of the last one when no other is left.
-fn add_snapshots<S: Store + Reader<Ledger = Uncounted>>(
+fn tell_snapshots<S: Store + Reader<Ledger = Uncounted>>(
     alloc: Global,
+    told: &mut Told,
     store: &mut S,
-    lines: &mut Vec<String>,
 ) -> Result<(), Fault>
     requires { IsEmpty (S.shown store.old) }
 {
     let mut loaded = load(alloc, store)?;
-    let done = add_each(alloc, store, &mut loaded, lines);
+    let done = tell_each(alloc, told, store, &mut loaded);
     drop(loaded);
     done
 }
 
-fn add_each<S: Store + Reader<Ledger = Uncounted>>(
+fn tell_each<S: Store + Reader<Ledger = Uncounted>>(
     alloc: Global,
+    told: &mut Told,
     store: &mut S,
     loaded: &mut Loaded,
-    lines: &mut Vec<String>,
 ) -> Result<(), Fault>
     requires { Laid loaded.old.schema loaded.old.layout (S.shown store.old) }
 {
-    add_all(alloc, store, loaded, "before", lines)?;
+    tell_at(alloc, told, store, loaded, "before")?;
     let last = loaded.layout.newest;
     loaded.snap = last;
-    add_all(alloc, store, loaded, "after", lines)?;
+    tell_at(alloc, told, store, loaded, "after")?;
     if loaded.layout.horizon <= last {
         loaded.layout = sweep(&loaded.schema, store, loaded.layout, last);
     }
-    add_all(alloc, store, loaded, "swept", lines)
+    tell_at(alloc, told, store, loaded, "swept")
 }
 
 /// What the scans give at the last snapshot of a store that was loaded.
@@ -83,15 +86,42 @@ fn look_loaded<S: Store + Reader<Ledger = Uncounted>>(
     given
 }
 
-/// How many calls were refused, and whether the scans give the same.
-fn refuse(alloc: Global, number: u32, expected: &Given) -> Result<(u32, bool), Fault> {
+fn is_same(given: &Result<Given, Fault>, expected: &Given) -> Result<bool, Fault> {
+    match given {
+        Ok(given) => Ok(*given == *expected),
+        Err(fault) => Err(*fault),
+    }
+}
+
+/// A store that refuses the call of a number.
+fn refusing(alloc: Global, number: u32) -> Result<Refusing<Plain>, NoMemory>
+    ensures { IfOk result (λ store. IsEmpty (plain.shown_of store)) }
+{
     let mut fails = Vec::new(alloc);
     fails.push(number)?;
-    let mut store = Refusing::new(Plain::new(alloc)?, fails);
+    Ok(Refusing::new(Plain::new(alloc)?, fails))
+}
+
+/// Tells how many calls were refused, and whether the scans give the same.
+fn tell_refused(
+    alloc: Global,
+    told: &mut Told,
+    number: u32,
+    expected: &Given,
+) -> Result<(), Fault> {
+    let mut store = refusing(alloc, number)?;
     let given = look_loaded(alloc, &mut store);
-    let refused = store.refused();
+    told.with("refused ", u64::from(number));
+    told.with(": ", u64::from(store.refused()));
     drop(store);
-    Ok((refused, given? == *expected))
+    let same = is_same(&given, expected);
+    drop(given);
+    told.word(if same? {
+        " call, the same lists\n"
+    } else {
+        " call, other lists\n"
+    });
+    Ok(())
 }
 
 /// What the scans give where no call is refused.
@@ -102,36 +132,29 @@ fn expected(alloc: Global) -> Result<Given, Fault> {
     given
 }
 
-fn add_refusals(alloc: Global, lines: &mut Vec<String>) -> Result<(), Fault> {
-    let expected = expected(alloc)?;
+fn tell_all_refused(alloc: Global, told: &mut Told, expected: &Given) -> Result<(), Fault> {
     'numbers: for number in 1..=60 {
-        let (refused, same) = refuse(alloc, number, &expected)?;
-        let lists = if same {
-            "the same lists"
-        } else {
-            "other lists"
-        };
-        lines.push(format!(in alloc; "refused {number}: {refused} call, {lists}")?)?;
+        tell_refused(alloc, told, number, expected)?;
     }
     Ok(())
 }
 
-fn add_plain(alloc: Global, lines: &mut Vec<String>) -> Result<(), Fault> {
+fn tell_refusals(alloc: Global, told: &mut Told) -> Result<(), Fault> {
+    let expected = expected(alloc)?;
+    let done = tell_all_refused(alloc, told, &expected);
+    drop(expected);
+    done
+}
+
+fn tell_plain(alloc: Global, told: &mut Told) -> Result<(), Fault> {
     let mut store = Plain::new(alloc)?;
-    let done = add_snapshots(alloc, &mut store, lines);
+    let done = tell_snapshots(alloc, told, &mut store);
     drop(store);
     done
 }
 
-fn all_lines(alloc: Global) -> Result<Vec<String>, Fault> {
-    let mut lines = Vec::new(alloc);
-    add_plain(alloc, &mut lines)?;
-    add_refusals(alloc, &mut lines)?;
-    Ok(lines)
-}
-
-/// Writes all of it.
-pub fn write(rt: &HostRuntime) -> io::Result<()> {
-    let lines = all_lines(rt.alloc());
-    write_lines(rt, &lines)
+/// Tells all of it.
+pub fn tell(alloc: Global, told: &mut Told) -> Result<(), Fault> {
+    tell_plain(alloc, told)?;
+    tell_refusals(alloc, told)
 }

@@ -3,8 +3,9 @@
 ghost use Rattle.std.specs.Prelude.{◌+◌, IfOk};
 ghost use Rattle.rv_versions.specs.Chains.{AllChainsBelow};
 
+use crate::told::Told;
+use crate::words::pair;
 use rv_loading::{Fault, cut, number, small};
-use rv_value::NoMemory;
 use rv_versions::Versions;
 use std::alloc::Global;
 
@@ -28,57 +29,51 @@ fn write(
     }
 }
 
+/// Two numbers below 2^64, parted by a space.
+fn numbers(text: &str) -> Result<(u64, u64), Fault> {
+    let (first, second) = cut(text, ' ')?;
+    Ok((number(first)?, number(second)?))
+}
+
 fn write_words(versions: &mut Versions<u64>, newest: u64, text: &str) -> Result<u64, Fault>
     requires below { AllChainsBelow (newest + 1) versions.old }
     ensures { IfOk result (λ last. AllChainsBelow (last + 1) versions.new) }
 {
     let (id, rest) = cut(text, ' ')?;
-    let (commit, value) = cut(rest, ' ')?;
-    let (id, commit, value) = (small(id)?, number(commit)?, number(value)?);
-    write(versions, newest, id, commit, value)
+    let (commit, value) = numbers(rest)?;
+    write(versions, newest, small(id)?, commit, value)
 }
 
 /// Tells of a number, where there is one.
-fn tell(alloc: Global, told: &mut String, found: Option<u64>) -> Result<(), NoMemory> {
+fn tell_number(told: &mut Told, found: Option<u64>) {
     match found {
-        Some(found) => {
-            let word = format!(in alloc; " {found}")?;
-            told.push_str(word.as_str())?;
-        }
-        None => told.push_str(" none")?,
+        Some(found) => told.with(" ", found),
+        None => told.word(" none"),
     }
-    Ok(())
 }
 
-fn read(
-    alloc: Global,
-    versions: &Versions<u64>,
-    told: &mut String,
-    text: &str,
-) -> Result<(), Fault> {
-    let (id, snap) = cut(text, ' ')?;
-    let found = versions.read(small(id)?, number(snap)?).copied();
-    Ok(tell(alloc, told, found)?)
+fn read(versions: &Versions<u64>, told: &mut Told, text: &str) -> Result<(), Fault> {
+    let (id, snap) = pair(text)?;
+    tell_number(told, versions.read(id, snap).copied());
+    Ok(())
 }
 
 /// Takes out what was written at the newest commit, or at a later one.
 fn take(
-    alloc: Global,
     versions: &mut Versions<u64>,
     newest: u64,
-    told: &mut String,
+    told: &mut Told,
     text: &str,
 ) -> Result<u64, Fault>
     requires below { AllChainsBelow (newest + 1) versions.old }
     ensures { IfOk result (λ last. AllChainsBelow (last + 1) versions.new) }
 {
-    let (id, commit) = cut(text, ' ')?;
-    let (id, commit) = (small(id)?, number(commit)?);
+    let (id, commit) = pair(text)?;
     if commit != newest {
         return Err(Fault::Form);
     }
     let taken = versions.take(id, commit);
-    tell(alloc, told, taken)?;
+    tell_number(told, taken);
     Ok(newest)
 }
 
@@ -98,30 +93,24 @@ fn purge(versions: &mut Versions<u64>, newest: u64, text: &str) -> Result<u64, F
     requires below { AllChainsBelow (newest + 1) versions.old }
     ensures { IfOk result (λ last. AllChainsBelow (last + 1) versions.new) }
 {
-    let (id, horizon) = cut(text, ' ')?;
-    versions.purge(small(id)?, number(horizon)?);
+    let (id, horizon) = pair(text)?;
+    versions.purge(id, horizon);
     Ok(newest)
 }
 
 /// Does an act, and answers the newest commit.
-fn act(
-    alloc: Global,
-    versions: &mut Versions<u64>,
-    newest: u64,
-    told: &mut String,
-    text: &str,
-) -> Result<u64, Fault>
+fn act(versions: &mut Versions<u64>, newest: u64, told: &mut Told, text: &str) -> Result<u64, Fault>
     requires below { AllChainsBelow (newest + 1) versions.old }
     ensures { IfOk result (λ last. AllChainsBelow (last + 1) versions.new) }
 {
     let (word, rest) = cut(text, ' ')?;
     match word {
         "write" => write_words(versions, newest, rest),
-        "take" => take(alloc, versions, newest, told, rest),
+        "take" => take(versions, newest, told, rest),
         "abandon" => abandon(versions, newest, rest),
         "purge" => purge(versions, newest, rest),
         "read" => {
-            read(alloc, versions, told, rest)?;
+            read(versions, told, rest)?;
             Ok(newest)
         }
         _ => Err(Fault::Form),
@@ -129,21 +118,30 @@ fn act(
 }
 
 /// Does acts, and tells what they find.
-fn told_of(alloc: Global, versions: &mut Versions<u64>, text: &str) -> Result<String, Fault>
+fn act_all(versions: &mut Versions<u64>, told: &mut Told, text: &str) -> Result<(), Fault>
     requires { AllChainsBelow (0 + 1) versions.old }
 {
-    let mut told = String::new(alloc);
     let mut newest = 0;
     'acts: for text in text.split(", ") {
-        newest = act(alloc, versions, newest, &mut told, text)?;
+        newest = act(versions, newest, told, text)?;
     }
-    let empty = if versions.is_empty() { "empty, " } else { "" };
-    Ok(format!(in alloc; "{empty}{} places, read{}", versions.len(), told.as_str())?)
+    Ok(())
 }
 
-pub fn told(alloc: Global, text: &str) -> Result<String, Fault> {
+fn tell_places(told: &mut Told, versions: &Versions<u64>) {
+    if versions.is_empty() {
+        told.word("empty, ");
+    }
+    told.number(versions.len() as u64);
+    told.word(" places, read");
+}
+
+/// What acts find, in words, behind how many places there are then.
+pub fn tell(alloc: Global, told: &mut Told, text: &str) -> Result<(), Fault> {
     let mut versions = Versions::new(alloc);
-    let told = told_of(alloc, &mut versions, text);
+    let mut found = Told::new(alloc);
+    let done = act_all(&mut versions, &mut found, text);
+    tell_places(told, &versions);
     drop(versions);
-    told
+    told.append(found, done)
 }

@@ -2,7 +2,7 @@
 use rv_loading::{Fault, cut, number, place};
 use rv_model::offers::cmp_offer;
 use rv_model::{Offer, Queue};
-use rv_value::{Items, NoMemory, Value};
+use rv_value::{Items, NoMemory, Value, Values};
 use std::alloc::Global;
 use std::cmp::Ordering;
 
@@ -71,16 +71,16 @@ fn value(word: &str) -> Result<Value, Fault> {
     Ok(Value::Int(word.parse().ok().ok_or(Fault::Form)?))
 }
 
-fn one(alloc: Global, word: &str) -> Result<Items<Value>, Fault> {
+fn shared(alloc: Global, word: &str) -> Result<Values, Fault> {
     let value = value(word)?;
-    Ok(Items::from_vec(vec![in alloc; value]?))
+    Ok(Values::of(alloc, vec![in alloc; value]?)?)
 }
 
 /// An offer of an order value and a value returned.
 fn offer(alloc: Global, text: &str) -> Result<Offer, Fault> {
     let (order, returned) = cut(text, ' ')?;
-    let order = one(alloc, order)?;
-    match one(alloc, returned) {
+    let order = Items::from_vec(vec![in alloc; value(order)?]?);
+    match shared(alloc, returned) {
         Ok(returned) => Ok(Offer { order, returned }),
         Err(fault) => {
             drop(order);

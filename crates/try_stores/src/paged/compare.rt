@@ -1,13 +1,14 @@
 //! What both stores show, compared.
 ghost use Rattle.std.specs.Prelude.{◌≡◌, ◌<◌, ◌≤◌};
-ghost use Rattle.rv_loading.specs.Laid.{IsNarrow};
+ghost use Rattle.rv_loading.specs.Laid.{Counted, IsNarrow};
 ghost use Rattle.try_stores.specs.Noted.{noted};
 ghost use Rattle.try_stores.specs.Twins.{AreLaid};
 
 use crate::paged::twins::Twins;
-use rv_loading::{between, estimate_of, leaves_of, row_of, rows_of, sizes_of, whole};
-use rv_reader::Change;
-use rv_value::{Duplicate, IndexEntry, Items, NoMemory, Range};
+use rv_judge::Uncounted;
+use rv_loading::{Layout, between, estimate_of, leaves_of, row_of, rows_of, sizes_of, whole};
+use rv_reader::{Change, Reader, Store};
+use rv_value::{Duplicate, IndexEntry, Items, NoMemory, Range, Record, RowNo};
 use std::alloc::Global;
 
 /// What differs between the stores.
@@ -102,13 +103,43 @@ fn compare_table(
     Ok(())
 }
 
+/// A copy of an entry, where there is one.
+fn copied(alloc: Global, from: Option<&IndexEntry>) -> Result<Option<IndexEntry>, NoMemory> {
+    match from {
+        Some(entry) => Ok(Some(entry.copy(alloc)?)),
+        None => Ok(None),
+    }
+}
+
+/// The entries of an index in a range, from one on or all, and the number of leaves in which a store has them.
+fn entries_of<S: Store + Reader<Ledger = Uncounted>>(
+    alloc: Global,
+    store: &S,
+    layout: Layout,
+    index: u32,
+    snap: u64,
+    from: Option<&IndexEntry>,
+    range: &Range,
+) -> Result<(Vec<IndexEntry>, usize), NoMemory>
+    requires laid { Counted layout (S.shown store.now) }
+    requires there { index < layout.indexes }
+    requires kept { layout.horizon ≤ snap }
+    requires known { snap ≤ layout.newest }
+    requires narrow { IsNarrow range.now }
+{
+    let from = copied(alloc, from)?;
+    let leaves = leaves_of(alloc, store, layout, index, snap, from, range)?;
+    let count = leaves.len();
+    Ok((joined(alloc, leaves)?, count))
+}
+
 /// The entries of an index in a range, from one on or all, in both stores; those of the paged store.
 fn compare_range(
     alloc: Global,
     twins: &Twins,
     index: u32,
     snap: u64,
-    from: Option<IndexEntry>,
+    from: Option<&IndexEntry>,
     range: &Range,
     tally: &mut Tally,
 ) -> Result<Vec<IndexEntry>, NoMemory>
@@ -118,13 +149,8 @@ fn compare_range(
     requires known { snap ≤ twins.now.layout.newest }
     requires narrow { IsNarrow range.now }
 {
-    let again = from.copy(alloc)?;
-    let ours = leaves_of(alloc, &twins.paged, twins.layout, index, snap, from, range)?;
-    let theirs = leaves_of(alloc, &twins.plain, twins.layout, index, snap, again, range)?;
-    let paged = ours.len();
-    let plain = theirs.len();
-    let ours = joined(alloc, ours)?;
-    let theirs = joined(alloc, theirs)?;
+    let (ours, paged) = entries_of(alloc, &twins.paged, twins.layout, index, snap, from, range)?;
+    let (theirs, plain) = entries_of(alloc, &twins.plain, twins.layout, index, snap, from, range)?;
     tally.add_leaves(ours.len(), paged, plain);
     let same = ours.as_slice() == theirs.as_slice();
     tally.note(same, What::Entries, index, snap);
@@ -147,11 +173,65 @@ fn compare_estimates(twins: &Twins, index: u32, snap: u64, range: &Range, tally:
     }
 }
 
-fn middle(alloc: Global, entries: &[IndexEntry]) -> Result<Option<IndexEntry>, NoMemory> {
-    match entries.get(entries.len() / 2) {
-        Some(entry) => Ok(Some(entry.copy(alloc)?)),
-        None => Ok(None),
-    }
+/// All entries of an index, and those from the one in the middle on.
+fn compare_halves(
+    alloc: Global,
+    twins: &Twins,
+    index: u32,
+    snap: u64,
+    all: &Range,
+    tally: &mut Tally,
+) -> Result<(), NoMemory>
+    requires laid { AreLaid twins.now }
+    requires there { index < twins.now.layout.indexes }
+    requires kept { twins.now.layout.horizon ≤ snap }
+    requires known { snap ≤ twins.now.layout.newest }
+    requires narrow { IsNarrow all.now }
+{
+    let entries = compare_range(alloc, twins, index, snap, None, all, tally)?;
+    let from = entries.get(entries.len() / 2);
+    compare_range(alloc, twins, index, snap, from, all, tally)?;
+    Ok(())
+}
+
+/// The entries of some first values, and how many there may be.
+fn compare_between(
+    alloc: Global,
+    twins: &Twins,
+    index: u32,
+    snap: u64,
+    some: &Range,
+    tally: &mut Tally,
+) -> Result<(), NoMemory>
+    requires laid { AreLaid twins.now }
+    requires there { index < twins.now.layout.indexes }
+    requires kept { twins.now.layout.horizon ≤ snap }
+    requires known { snap ≤ twins.now.layout.newest }
+    requires narrow { IsNarrow some.now }
+{
+    compare_estimates(twins, index, snap, some, tally);
+    compare_range(alloc, twins, index, snap, None, some, tally)?;
+    Ok(())
+}
+
+fn compare_some(
+    alloc: Global,
+    twins: &Twins,
+    index: u32,
+    snap: u64,
+    low: i64,
+    high: i64,
+    tally: &mut Tally,
+) -> Result<(), NoMemory>
+    requires laid { AreLaid twins.now }
+    requires there { index < twins.now.layout.indexes }
+    requires kept { twins.now.layout.horizon ≤ snap }
+    requires known { snap ≤ twins.now.layout.newest }
+{
+    let some = between(alloc, low, high)?;
+    let done = compare_between(alloc, twins, index, snap, &some, tally);
+    drop(some);
+    done
 }
 
 fn compare_index(
@@ -167,16 +247,11 @@ fn compare_index(
     requires known { snap ≤ twins.now.layout.newest }
 {
     let all = whole();
-    let some = between(alloc, 50, 99)?;
-    let few = between(alloc, 7, 7)?;
-    let entries = compare_range(alloc, twins, index, snap, None, &all, tally)?;
-    let from = middle(alloc, entries.as_slice())?;
-    compare_range(alloc, twins, index, snap, from, &all, tally)?;
-    compare_range(alloc, twins, index, snap, None, &some, tally)?;
-    compare_range(alloc, twins, index, snap, None, &few, tally)?;
-    compare_estimates(twins, index, snap, &some, tally);
-    compare_estimates(twins, index, snap, &few, tally);
-    Ok(())
+    let done = compare_halves(alloc, twins, index, snap, &all, tally);
+    drop(all);
+    done?;
+    compare_some(alloc, twins, index, snap, 50, 99, tally)?;
+    compare_some(alloc, twins, index, snap, 7, 7, tally)
 }
 
 /// All tables and indexes at a snapshot.
@@ -210,6 +285,39 @@ pub fn compare_snapshots(alloc: Global, twins: &Twins, tally: &mut Tally) -> Res
     Ok(())
 }
 
+/// A row at the newest snapshot.
+fn compare_row(
+    alloc: Global,
+    twins: &Twins,
+    table: u32,
+    row: RowNo,
+    tally: &mut Tally,
+) -> Result<(), NoMemory>
+    requires laid { AreLaid twins.now }
+    requires there { table < twins.now.layout.tables }
+{
+    let snap = twins.layout.newest;
+    let ours = row_of(alloc, &twins.paged, twins.layout, table, snap, row)?;
+    let theirs = row_of(alloc, &twins.plain, twins.layout, table, snap, row);
+    let same = is_found(&ours, &theirs);
+    drop(ours);
+    drop(theirs);
+    tally.fetches = tally.fetches.saturating_add(1);
+    tally.note(same?, What::Row, table, snap);
+    Ok(())
+}
+
+/// Whether the same was found.
+fn is_found(
+    ours: &Option<Record>,
+    theirs: &Result<Option<Record>, NoMemory>,
+) -> Result<bool, NoMemory> {
+    match theirs {
+        Ok(theirs) => Ok(*ours == *theirs),
+        Err(fault) => Err(*fault),
+    }
+}
+
 /// The rows that were changed, at the newest snapshot.
 pub fn compare_changed(
     alloc: Global,
@@ -219,14 +327,9 @@ pub fn compare_changed(
 ) -> Result<(), NoMemory>
     requires { AreLaid twins.now }
 {
-    let snap = twins.layout.newest;
     'changes: for change in changes {
         if change.table < twins.layout.tables {
-            let table = change.table;
-            let ours = row_of(alloc, &twins.paged, twins.layout, table, snap, change.row)?;
-            let theirs = row_of(alloc, &twins.plain, twins.layout, table, snap, change.row)?;
-            tally.fetches = tally.fetches.saturating_add(1);
-            tally.note(ours == theirs, What::Row, table, snap);
+            compare_row(alloc, twins, change.table, change.row, tally)?;
         }
     }
     Ok(())

@@ -1,11 +1,11 @@
 //! What changes do to rows.
-ghost use Rattle.std.specs.Prelude.{◌≤◌};
+ghost use Rattle.std.specs.Prelude.{◌<◌, ◌≤◌};
 ghost use Rattle.try_stores.specs.Twins.{AreLaid};
 
 use crate::paged::twins::Twins;
 use rv_loading::row_of;
 use rv_reader::Change;
-use rv_value::NoMemory;
+use rv_value::{NoMemory, RowNo};
 use std::alloc::Global;
 
 /// How many changes put a row in, gave a row other values, took one away, or were of no row.
@@ -37,6 +37,18 @@ impl Kinds {
     }
 }
 
+/// Whether a table has a row at the newest commit.
+fn is_there(alloc: Global, twins: &Twins, table: u32, row: RowNo) -> Result<bool, NoMemory>
+    requires laid { AreLaid twins.now }
+    requires there { table < twins.now.layout.tables }
+{
+    let newest = twins.layout.newest;
+    let found = row_of(alloc, &twins.plain, twins.layout, table, newest, row)?;
+    let is_there = found.is_some();
+    drop(found);
+    Ok(is_there)
+}
+
 /// Counts changes that are to come, by the rows of the newest commit.
 pub fn count_kinds(
     alloc: Global,
@@ -46,18 +58,10 @@ pub fn count_kinds(
 ) -> Result<(), NoMemory>
     requires { AreLaid twins.now }
 {
-    let snap = twins.layout.newest;
     'changes: for change in changes {
         if change.table < twins.layout.tables {
-            let found = row_of(
-                alloc,
-                &twins.plain,
-                twins.layout,
-                change.table,
-                snap,
-                change.row,
-            )?;
-            kinds.add(found.is_some(), change.values.is_some());
+            let before = is_there(alloc, twins, change.table, change.row)?;
+            kinds.add(before, change.values.is_some());
         }
     }
     Ok(())

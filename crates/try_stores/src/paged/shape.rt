@@ -4,6 +4,7 @@ ghost use Rattle.rv_loading.specs.Laid.{IsNarrow};
 ghost use Rattle.try_stores.specs.Twins.{AreLaid};
 
 use crate::paged::twins::Twins;
+use crate::told::Told;
 use rv_loading::{between, estimate_of, leaves_of, whole};
 use rv_value::{IndexEntry, Items, NoMemory, Range};
 use std::alloc::Global;
@@ -27,20 +28,20 @@ fn count_of(leaves: &[Items<IndexEntry>], size: usize) -> usize {
     count
 }
 
-/// How many entries and leaves there are, and how many leaves have how many entries.
-fn sizes_line(alloc: Global, index: u32, leaves: &[Items<IndexEntry>]) -> Result<String, NoMemory> {
-    let entries = count_all(leaves);
-    let mut line = format!(in alloc;
-        "index {index}: {entries} entries in {} leaves:",
-        leaves.len()
-    )?;
+/// Tells how many entries and leaves there are, and how many leaves have how many entries.
+fn tell_sizes(told: &mut Told, index: u32, leaves: &[Items<IndexEntry>]) {
+    told.with("index ", u64::from(index));
+    told.with(": ", count_all(leaves) as u64);
+    told.with(" entries in ", leaves.len() as u64);
+    told.word(" leaves:");
     'sizes: for size in 0..33 {
         let count = count_of(leaves, size);
         if count > 0 {
-            line.push_str(format!(in alloc; " {count} of {size}")?.as_str())?;
+            told.with(" ", count as u64);
+            told.with(" of ", size as u64);
         }
     }
-    Ok(line)
+    told.word("\n");
 }
 
 /// The leaves of an index at the newest commit, as they are read for a range.
@@ -66,8 +67,13 @@ fn leaves_for(
     )
 }
 
-/// The entries and the leaves of an index at the newest commit, and how many leaves have how many entries.
-pub fn leaves_line(alloc: Global, twins: &Twins, index: u32) -> Result<String, NoMemory>
+/// Tells the entries and the leaves of an index at the newest commit, and how many leaves have how many entries.
+pub fn tell_leaves(
+    alloc: Global,
+    told: &mut Told,
+    twins: &Twins,
+    index: u32,
+) -> Result<(), NoMemory>
     requires laid { AreLaid twins.now }
     requires there { index < twins.now.layout.indexes }
 {
@@ -75,60 +81,44 @@ pub fn leaves_line(alloc: Global, twins: &Twins, index: u32) -> Result<String, N
     let leaves = leaves_for(alloc, twins, index, &range);
     drop(range);
     let leaves = leaves?;
-    let line = sizes_line(alloc, index, leaves.as_slice());
-    drop(leaves);
-    line
+    tell_sizes(told, index, leaves.as_slice());
+    Ok(())
 }
 
-/// What is found for a range.
-#[derive(Clone, Copy)]
-struct Found {
-    value: u64,
-    exact: bool,
-    entries: usize,
-    leaves: usize,
-}
-
-/// The estimate of a range, and what is read of it.
-fn find(alloc: Global, twins: &Twins, index: u32, range: &Range) -> Result<Found, NoMemory>
+/// Tells what is read of a range.
+fn tell_found(
+    alloc: Global,
+    told: &mut Told,
+    twins: &Twins,
+    index: u32,
+    range: &Range,
+) -> Result<(), NoMemory>
     requires laid { AreLaid twins.now }
     requires there { index < twins.now.layout.indexes }
     requires narrow { IsNarrow range.now }
 {
-    let newest = twins.layout.newest;
-    let estimate = estimate_of(&twins.paged, twins.layout, index, newest, range);
     let leaves = leaves_for(alloc, twins, index, range)?;
-    let (entries, count) = (count_all(leaves.as_slice()), leaves.len());
-    drop(leaves);
-    Ok(Found {
-        value: estimate.value,
-        exact: estimate.exact,
-        entries,
-        leaves: count,
-    })
+    told.read(count_all(leaves.as_slice()), leaves.len());
+    Ok(())
 }
 
-/// The estimate of a range of first values, and what is read of it.
-pub fn range_line(
+/// Tells the estimate of a range of first values, and what is read of it.
+pub fn tell_range(
     alloc: Global,
+    told: &mut Told,
     twins: &Twins,
     index: u32,
     low: i64,
     high: i64,
-) -> Result<String, NoMemory>
+) -> Result<(), NoMemory>
     requires laid { AreLaid twins.now }
     requires there { index < twins.now.layout.indexes }
 {
     let range = between(alloc, low, high)?;
-    let found = find(alloc, twins, index, &range);
+    let newest = twins.layout.newest;
+    let estimate = estimate_of(&twins.paged, twins.layout, index, newest, &range);
+    told.range(low, high, estimate);
+    let done = tell_found(alloc, told, twins, index, &range);
     drop(range);
-    told(alloc, found?, low, high)
-}
-
-fn told(alloc: Global, found: Found, low: i64, high: i64) -> Result<String, NoMemory> {
-    let about = if found.exact { "exactly" } else { "about" };
-    Ok(format!(in alloc;
-        "  {low} to {high}: {about} {}, {} in {}",
-        found.value, found.entries, found.leaves
-    )?)
+    done
 }

@@ -1,9 +1,11 @@
-//! What a row of the table does with a joint scan, and a line for each act.
-ghost use Rattle.std.specs.Prelude.{◌≡◌};
+//! What a row of the table does with a joint scan, and the words for each act.
+ghost use Rattle.std.specs.Prelude.{◌≡◌, ◌≤◌, length};
 ghost use Rattle.rv_reader.specs.Shown.{Shown};
 ghost use Rattle.try_stores.specs.Drawing.{Drawn, Lists};
 
+use crate::list::put;
 use crate::pieces::joint::{Name, Query, abandon, give, joint, take};
+use crate::told::Told;
 use rv_jscan::{Given, Jscan, Piece, PieceId, Sieved, sieve};
 use rv_judge::{Steps, Uncounted};
 use rv_reader::Reader;
@@ -23,131 +25,162 @@ pub enum Act {
     Abandon,
 }
 
-fn id_text(alloc: Global, id: PieceId) -> Result<String, NoMemory> {
-    Ok(format!(in alloc; "{}.{}.{}", id.cursor, id.opening, id.number)?)
+fn tell_id(told: &mut Told, id: PieceId) {
+    told.number(id.cursor);
+    told.with(".", id.opening);
+    told.with(".", id.number);
 }
 
-fn awaited_text(alloc: Global, id: Option<PieceId>) -> Result<String, NoMemory> {
+fn tell_awaited(told: &mut Told, id: Option<PieceId>) {
     match id {
-        Some(id) => id_text(alloc, id),
-        None => Ok(String::from_str(alloc, "none")?),
+        Some(id) => tell_id(told, id),
+        None => told.word("none"),
     }
 }
 
-/// How many entries the sieved copy of a piece has, and how many of them are marked.
-fn sieved_text(alloc: Global, piece: &Piece) -> Result<String, NoMemory> {
-    let sieved = sieve(piece.copy(alloc)?);
-    let text = marks_text(alloc, &sieved);
-    drop(sieved);
-    text
-}
-
-fn marks_text(alloc: Global, sieved: &Sieved) -> Result<String, NoMemory> {
-    let id = id_text(alloc, sieved.id())?;
-    let count = sieved.entries().len() as u32;
-    let mut marked = 0u32;
+/// How many of the first entries are marked.
+fn count_marked(sieved: &Sieved, count: u32) -> u64
+    requires { count ≤ length sieved.now.entries }
+{
+    let mut marked = 0u64;
     'entries: for i in 0..count {
         if sieved.marked(i) {
             marked = marked.saturating_add(1);
         }
     }
-    Ok(format!(in alloc; "{}: {count} entries, {marked} marked", id.as_str())?)
+    marked
+}
+
+/// Tells how many entries a sieved piece has, and how many of them are marked.
+fn tell_marks(told: &mut Told, sieved: &Sieved) {
+    let count = sieved.entries().len() as u32;
+    tell_id(told, sieved.id());
+    told.with(": ", u64::from(count));
+    told.with(" entries, ", count_marked(sieved, count));
+    told.word(" marked");
+}
+
+/// Tells of the sieved copy of a piece that is taken.
+fn tell_taken(alloc: Global, told: &mut Told, piece: &Piece) -> Result<(), NoMemory> {
+    let sieved = sieve(piece.copy(alloc)?);
+    told.word("take ");
+    tell_marks(told, &sieved);
+    drop(sieved);
+    Ok(())
 }
 
 /// Puts a taken piece aside.
-fn put_aside(alloc: Global, piece: Piece, pieces: &mut Vec<Piece>) -> Result<String, NoMemory> {
-    let text = match sieved_text(alloc, &piece) {
-        Ok(text) => text,
-        Err(NoMemory) => {
-            drop(piece);
-            return Err(NoMemory);
-        }
-    };
-    pieces.push(piece)?;
-    Ok(format!(in alloc; "take {}", text.as_str())?)
+fn put_aside(
+    alloc: Global,
+    told: &mut Told,
+    piece: Piece,
+    pieces: &mut Vec<Piece>,
+) -> Result<(), NoMemory> {
+    let done = tell_taken(alloc, told, &piece);
+    put(pieces, piece)?;
+    done
 }
 
 fn put_aside_some(
     alloc: Global,
+    told: &mut Told,
     piece: Option<Piece>,
     pieces: &mut Vec<Piece>,
-) -> Result<String, NoMemory> {
+) -> Result<(), NoMemory> {
     match piece {
-        Some(piece) => put_aside(alloc, piece, pieces),
-        None => Ok(String::from_str(alloc, "take: nothing")?),
+        Some(piece) => put_aside(alloc, told, piece, pieces),
+        None => {
+            told.word("take: nothing");
+            Ok(())
+        }
     }
 }
 
 fn take_other<R: Reader<Ledger = Uncounted>>(
     alloc: Global,
+    told: &mut Told,
     reader: &R,
     snap: u64,
     query: Query,
     name: Name,
     pieces: &mut Vec<Piece>,
-) -> Result<String, NoMemory>
+) -> Result<(), NoMemory>
     requires { Lists (R.shown reader.now) snap }
 {
     let mut other = joint(alloc, reader, snap, query, name)?;
-    let text = take_of(alloc, reader, &mut other, pieces);
-    drop(other);
-    Ok(format!(in alloc; "other {}", text?.as_str())?)
-}
-
-/// Takes the awaited piece of another joint scan.
-fn take_of<R: Reader<Ledger = Uncounted>>(
-    alloc: Global,
-    reader: &R,
-    other: &mut Jscan,
-    pieces: &mut Vec<Piece>,
-) -> Result<String, NoMemory>
-    requires { Drawn (R.shown reader.now) other.old }
-{
+    told.word("other ");
     let mut steps = Steps::new(Uncounted);
-    let piece = take(reader, other, &mut steps)?;
-    put_aside_some(alloc, piece, pieces)
+    let piece = take(reader, &mut other, &mut steps);
+    drop(other);
+    put_aside_some(alloc, told, piece?, pieces)
 }
 
-fn given_text(alloc: Global, given: Given) -> Result<String, NoMemory> {
+fn tell_given(told: &mut Told, given: Given) {
     match given {
-        Given::Accepted => Ok(String::from_str(alloc, "accepted")?),
-        Given::Stale { asked, now } => stale_text(alloc, asked, now),
+        Given::Accepted => told.word(": accepted"),
+        Given::Stale { asked, now } => tell_stale(told, asked, now),
     }
 }
 
-fn stale_text(alloc: Global, asked: PieceId, now: Option<PieceId>) -> Result<String, NoMemory> {
-    let asked = id_text(alloc, asked)?;
-    let now = awaited_text(alloc, now)?;
-    Ok(format!(in alloc; "stale, asked {}, now {}", asked.as_str(), now.as_str())?)
+fn tell_stale(told: &mut Told, asked: PieceId, now: Option<PieceId>) {
+    told.word(": stale, asked ");
+    tell_id(told, asked);
+    told.word(", now ");
+    tell_awaited(told, now);
 }
 
-fn give_copy(alloc: Global, jscan: &mut Jscan, piece: &Piece) -> Result<String, NoMemory>
+fn give_copy(
+    alloc: Global,
+    told: &mut Told,
+    jscan: &mut Jscan,
+    piece: &Piece,
+) -> Result<(), NoMemory>
     ensures { (shown : Shown) → Drawn shown jscan.old → Drawn shown jscan.new }
 {
-    let copy = piece.copy(alloc)?;
-    let given = give(jscan, copy)?;
-    let text = given_text(alloc, given)?;
-    let id = id_text(alloc, piece.id())?;
-    Ok(format!(in alloc; "give {}: {}", id.as_str(), text.as_str())?)
+    told.word("give ");
+    tell_id(told, piece.id());
+    let given = give(jscan, piece.copy(alloc)?)?;
+    tell_given(told, given);
+    Ok(())
 }
 
 fn give_at(
     alloc: Global,
+    told: &mut Told,
     jscan: &mut Jscan,
     pieces: &[Piece],
     at: usize,
-) -> Result<String, NoMemory>
+) -> Result<(), NoMemory>
     ensures { (shown : Shown) → Drawn shown jscan.old → Drawn shown jscan.new }
 {
     match pieces.get(at) {
-        Some(piece) => give_copy(alloc, jscan, piece),
-        None => Ok(String::from_str(alloc, "give: no such piece")?),
+        Some(piece) => give_copy(alloc, told, jscan, piece),
+        None => {
+            told.word("give: no such piece");
+            Ok(())
+        }
     }
 }
 
-/// Does an act; what it did.
+fn take_own<R: Reader<Ledger = Uncounted>>(
+    alloc: Global,
+    told: &mut Told,
+    reader: &R,
+    jscan: &mut Jscan,
+    pieces: &mut Vec<Piece>,
+    steps: &mut Steps<R::Ledger>,
+) -> Result<(), NoMemory>
+    requires { Drawn (R.shown reader.now) jscan.old }
+    ensures { Drawn (R.shown reader.now) jscan.new }
+{
+    let piece = take(reader, jscan, steps)?;
+    put_aside_some(alloc, told, piece, pieces)
+}
+
+/// Does an act, and tells what it did.
 pub fn carry_out<R: Reader<Ledger = Uncounted>>(
     alloc: Global,
+    told: &mut Told,
     reader: &R,
     snap: u64,
     query: Query,
@@ -155,21 +188,20 @@ pub fn carry_out<R: Reader<Ledger = Uncounted>>(
     jscan: &mut Jscan,
     pieces: &mut Vec<Piece>,
     steps: &mut Steps<R::Ledger>,
-) -> Result<String, NoMemory>
+) -> Result<(), NoMemory>
     requires lists { Lists (R.shown reader.now) snap }
     requires drawn { Drawn (R.shown reader.now) jscan.old }
     ensures { Drawn (R.shown reader.now) jscan.new }
 {
+    told.word("  ");
     match act {
-        Act::Take => {
-            let piece = take(reader, jscan, steps)?;
-            put_aside_some(alloc, piece, pieces)
-        }
-        Act::TakeOther(name) => take_other(alloc, reader, snap, query, name, pieces),
-        Act::Give(at) => give_at(alloc, jscan, pieces.as_slice(), at),
+        Act::Take => take_own(alloc, told, reader, jscan, pieces, steps),
+        Act::TakeOther(name) => take_other(alloc, told, reader, snap, query, name, pieces),
+        Act::Give(at) => give_at(alloc, told, jscan, pieces.as_slice(), at),
         Act::Abandon => {
             abandon(jscan);
-            Ok(String::from_str(alloc, "abandon")?)
+            told.word("abandon");
+            Ok(())
         }
     }
 }

@@ -1,59 +1,50 @@
-//! What a joint scan holds, in lines.
+//! What a joint scan holds, in words.
 ghost use Rattle.std.specs.Prelude.{◌≡◌};
 
+use crate::told::Told;
 use rv_jscan::Jscan;
 use rv_keylist::KeyList;
-use rv_value::NoMemory;
-use std::alloc::Global;
 
-fn length_text(alloc: Global, list: Option<&KeyList>) -> Result<String, NoMemory> {
+fn tell_length(told: &mut Told, list: Option<&KeyList>) {
     match list {
-        Some(list) => Ok(format!(in alloc; "{}", list.len())?),
-        None => Ok(format!(in alloc; "none")?),
+        Some(list) => told.number(list.len()),
+        None => told.word("none"),
     }
 }
 
-fn add_counts(alloc: Global, jscan: &Jscan, line: &mut String) -> Result<(), NoMemory> {
+fn tell_counts(told: &mut Told, jscan: &Jscan) {
     'scans: for scan in 0..jscan.planned() {
-        let counts = format!(in alloc;
-            "; scan {scan}: scanned {}, kept {}, leaves {}",
-            jscan.scanned(scan),
-            jscan.kept(scan),
-            jscan.leaves(scan)
-        )?;
-        line.push_str(counts.as_str())?;
+        told.with("; scan ", scan as u64);
+        told.with(": scanned ", jscan.scanned(scan));
+        told.with(", kept ", jscan.kept(scan));
+        told.with(", leaves ", jscan.leaves(scan));
     }
-    Ok(())
+    told.word("\n");
 }
 
-/// What an act did, and what is held then.
-pub fn state(alloc: Global, did: &str, jscan: &Jscan) -> Result<String, NoMemory> {
-    let list = length_text(alloc, jscan.list())?;
-    let building = length_text(alloc, jscan.building())?;
-    let mut line = format!(in alloc;
-        "  {did}; ended {}, list {}, building {}",
-        jscan.ended(),
-        list.as_str(),
-        building.as_str()
-    )?;
-    add_counts(alloc, jscan, &mut line)?;
-    Ok(line)
+/// Tells what is held after an act.
+pub fn tell_state(told: &mut Told, jscan: &Jscan) {
+    told.with("; ended ", jscan.ended() as u64);
+    told.word(", list ");
+    tell_length(told, jscan.list());
+    told.word(", building ");
+    tell_length(told, jscan.building());
+    tell_counts(told, jscan);
 }
 
-fn add_keys(alloc: Global, list: &KeyList, line: &mut String) -> Result<(), NoMemory> {
+fn tell_keys(told: &mut Told, list: &KeyList) {
     'keys: for i in 0..list.len() {
-        let key = format!(in alloc; " {}", list.get(i).0)?;
-        line.push_str(key.as_str())?;
+        told.with(" ", list.get(i).0);
     }
-    Ok(())
 }
 
-/// The keys of the last complete list, and how many leaves were read.
-pub fn total(alloc: Global, jscan: &Jscan, leaves: u64) -> Result<String, NoMemory> {
-    let mut line = format!(in alloc; "  {leaves} leaves read; keys")?;
+/// Tells the keys of the last complete list, and how many leaves were read.
+pub fn tell_total(told: &mut Told, jscan: &Jscan, leaves: u64) {
+    told.with("  ", leaves);
+    told.word(" leaves read; keys");
     match jscan.list() {
-        Some(list) => add_keys(alloc, list, &mut line)?,
-        None => line.push_str(" none")?,
+        Some(list) => tell_keys(told, list),
+        None => told.word(" none"),
     }
-    Ok(line)
+    told.word("\n");
 }

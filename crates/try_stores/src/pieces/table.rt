@@ -4,7 +4,8 @@ ghost use Rattle.try_stores.specs.Drawing.{Drawn, Lists};
 
 use crate::pieces::acts::{Act, carry_out};
 use crate::pieces::joint::{Name, Query, joint};
-use crate::pieces::lines::{state, total};
+use crate::pieces::lines::{tell_state, tell_total};
+use crate::told::Told;
 use rv_jscan::Jscan;
 use rv_judge::{Steps, Uncounted};
 use rv_reader::Reader;
@@ -160,138 +161,100 @@ const NEITHER: [Act; 3] = [Act::Abandon, Act::Abandon, Act::Take];
 
 fn do_all<R: Reader<Ledger = Uncounted>>(
     alloc: Global,
+    told: &mut Told,
     reader: &R,
     snap: u64,
     query: Query,
     acts: &[Act],
     jscan: &mut Jscan,
     steps: &mut Steps<R::Ledger>,
-    lines: &mut Vec<String>,
 ) -> Result<(), NoMemory>
     requires lists { Lists (R.shown reader.now) snap }
     requires drawn { Drawn (R.shown reader.now) jscan.old }
 {
     let mut pieces = Vec::new(alloc);
     'acts: for one in acts {
-        let did = carry_out(alloc, reader, snap, query, *one, jscan, &mut pieces, steps)?;
-        add_state(alloc, did.as_str(), jscan, lines)?;
+        carry_out(
+            alloc,
+            told,
+            reader,
+            snap,
+            query,
+            *one,
+            jscan,
+            &mut pieces,
+            steps,
+        )?;
+        tell_state(told, jscan);
     }
     Ok(())
 }
 
-fn add_state(
-    alloc: Global,
-    did: &str,
-    jscan: &Jscan,
-    lines: &mut Vec<String>,
-) -> Result<(), NoMemory> {
-    Ok(lines.push(state(alloc, did, jscan)?)?)
-}
-
-/// A row of the table.
-fn row<R: Reader<Ledger = Uncounted>>(
-    alloc: Global,
-    reader: &R,
-    snap: u64,
-    name: &str,
-    query: Query,
-    acts: &[Act],
-    lines: &mut Vec<String>,
-) -> Result<(), NoMemory>
-    requires { Lists (R.shown reader.now) snap }
-{
-    lines.push(String::from_str(alloc, name)?)?;
-    let mut jscan = joint(alloc, reader, snap, query, OWN)?;
-    let done = add_acts(alloc, reader, snap, query, acts, &mut jscan, lines);
-    drop(jscan);
-    done
-}
-
 /// What the acts do, and the keys of the list then.
-fn add_acts<R: Reader<Ledger = Uncounted>>(
+fn tell_acts<R: Reader<Ledger = Uncounted>>(
     alloc: Global,
+    told: &mut Told,
     reader: &R,
     snap: u64,
     query: Query,
     acts: &[Act],
     jscan: &mut Jscan,
-    lines: &mut Vec<String>,
 ) -> Result<(), NoMemory>
     requires lists { Lists (R.shown reader.now) snap }
     requires drawn { Drawn (R.shown reader.now) jscan.old }
 {
     let mut steps = Steps::new(Uncounted);
-    do_all(alloc, reader, snap, query, acts, jscan, &mut steps, lines)?;
-    lines.push(total(alloc, jscan, steps.counts().leaves)?)?;
-    Ok(())
+    let done = do_all(alloc, told, reader, snap, query, acts, jscan, &mut steps);
+    tell_total(told, jscan, steps.counts().leaves);
+    done
 }
 
-/// The lines of the row of a number.
-fn add_row<R: Reader<Ledger = Uncounted>>(
+/// A row of the table.
+fn row<R: Reader<Ledger = Uncounted>>(
     alloc: Global,
+    told: &mut Told,
     reader: &R,
     snap: u64,
-    number: u32,
-    lines: &mut Vec<String>,
+    name: &str,
+    query: Query,
+    acts: &[Act],
 ) -> Result<(), NoMemory>
     requires { Lists (R.shown reader.now) snap }
 {
+    told.word(name);
+    let mut jscan = joint(alloc, reader, snap, query, OWN)?;
+    let done = tell_acts(alloc, told, reader, snap, query, acts, &mut jscan);
+    drop(jscan);
+    done
+}
+
+/// The name, the query and the acts of the row of a number.
+fn row_at(number: u32) -> (&'static str, Query, &'static [Act]) {
     match number {
-        0 => row(alloc, reader, snap, "each once", BOTH, &ONCE, lines),
-        1 => row(
-            alloc,
-            reader,
-            snap,
-            "one row does not pass",
-            WITHOUT,
-            &ONCE,
-            lines,
-        ),
-        2 => row(alloc, reader, snap, "an empty list", NONE, &EMPTY, lines),
-        3 => row(alloc, reader, snap, "taken twice", BOTH, &TWICE, lines),
-        4 => row(
-            alloc,
-            reader,
-            snap,
-            "given twice and late",
-            BOTH,
-            &LATE,
-            lines,
-        ),
-        5 => row(alloc, reader, snap, "of another scan", BOTH, &OTHERS, lines),
-        6 => row(
-            alloc,
-            reader,
-            snap,
-            "the first never given",
-            BOTH,
-            &FIRST_NEVER,
-            lines,
-        ),
-        7 => row(
-            alloc,
-            reader,
-            snap,
-            "the second never given",
-            BOTH,
-            &SECOND_NEVER,
-            lines,
-        ),
-        _ => row(alloc, reader, snap, "both abandoned", BOTH, &NEITHER, lines),
+        0 => ("each once\n", BOTH, &ONCE),
+        1 => ("one row does not pass\n", WITHOUT, &ONCE),
+        2 => ("an empty list\n", NONE, &EMPTY),
+        3 => ("taken twice\n", BOTH, &TWICE),
+        4 => ("given twice and late\n", BOTH, &LATE),
+        5 => ("of another scan\n", BOTH, &OTHERS),
+        6 => ("the first never given\n", BOTH, &FIRST_NEVER),
+        7 => ("the second never given\n", BOTH, &SECOND_NEVER),
+        _ => ("both abandoned\n", BOTH, &NEITHER),
     }
 }
 
 /// The lines of the whole table.
-pub fn add_table<R: Reader<Ledger = Uncounted>>(
+pub fn tell_table<R: Reader<Ledger = Uncounted>>(
     alloc: Global,
+    told: &mut Told,
     reader: &R,
     snap: u64,
-    lines: &mut Vec<String>,
 ) -> Result<(), NoMemory>
     requires { Lists (R.shown reader.now) snap }
 {
     'rows: for number in 0..9u32 {
-        add_row(alloc, reader, snap, number, lines)?;
+        let (name, query, acts) = row_at(number);
+        row(alloc, told, reader, snap, name, query, acts)?;
     }
     Ok(())
 }

@@ -6,6 +6,7 @@ ghost use Rattle.rv_scan.specs.Alongs.{fetched};
 ghost use Rattle.rv_scan.specs.Due.{HaveColumns, IsReady, due, skipped};
 ghost use Rattle.rv_scan.specs.Told.{NamesThese, told};
 
+use crate::list::put;
 use rv_judge::Steps;
 use rv_reader::Reader;
 use rv_restrict::Restriction;
@@ -31,10 +32,22 @@ pub fn by_pages<R: Reader>(
     let mut scan = Tscan::new(alloc, table, snap);
     let mut found = Vec::new(alloc);
     'scan: loop {
-        match scan.step(reader, only, skip, steps)? {
-            Scanned::Found(row) => found.push(row)?,
-            Scanned::Working => {}
-            Scanned::End => return Ok(found),
+        match scan.step(reader, only, skip, steps) {
+            Ok(Scanned::Found(row)) => {
+                if let Err(fault) = put(&mut found, row) {
+                    drop(scan);
+                    return Err(fault);
+                }
+            }
+            Ok(Scanned::Working) => {}
+            Ok(Scanned::End) => {
+                drop(scan);
+                return Ok(found);
+            }
+            Err(fault) => {
+                drop(scan);
+                return Err(fault);
+            }
         }
     }
 }
@@ -61,10 +74,22 @@ pub fn by_fetches<R: Reader>(
     let mut scan = Fscan::new(alloc, table, index, snap, range);
     let mut found = Vec::new(alloc);
     'scan: loop {
-        match scan.step(reader, only, skip, steps)? {
-            Scanned::Found(row) => found.push(row)?,
-            Scanned::Working => {}
-            Scanned::End => return Ok(found),
+        match scan.step(reader, only, skip, steps) {
+            Ok(Scanned::Found(row)) => {
+                if let Err(fault) = put(&mut found, row) {
+                    drop(scan);
+                    return Err(fault);
+                }
+            }
+            Ok(Scanned::Working) => {}
+            Ok(Scanned::End) => {
+                drop(scan);
+                return Ok(found);
+            }
+            Err(fault) => {
+                drop(scan);
+                return Err(fault);
+            }
         }
     }
 }
@@ -90,10 +115,22 @@ pub fn by_keys<R: Reader>(
     let mut scan = Sscan::new(alloc, index, snap, range);
     let mut found = Vec::new(alloc);
     'scan: loop {
-        match scan.step(reader, only, skip, columns, steps)? {
-            Scanned::Found(row) => found.push(row)?,
-            Scanned::Working => {}
-            Scanned::End => return Ok(found),
+        match scan.step(reader, only, skip, columns, steps) {
+            Ok(Scanned::Found(row)) => {
+                if let Err(fault) = put(&mut found, row) {
+                    drop(scan);
+                    return Err(fault);
+                }
+            }
+            Ok(Scanned::Working) => {}
+            Ok(Scanned::End) => {
+                drop(scan);
+                return Ok(found);
+            }
+            Err(fault) => {
+                drop(scan);
+                return Err(fault);
+            }
         }
     }
 }

@@ -2,7 +2,7 @@
 ghost use Rattle.std.specs.Prelude.{nat_lt, nat_le};
 ghost use Rattle.std.proofs.lemmas.List.Sorted.{IsStrictWeakOrder-by_number};
 
-use crate::views::lines::{add, add_some};
+use crate::told::Told;
 use rv_blocks::{Blocks, Front, Placed};
 use rv_value::{Duplicate, NoMemory};
 use std::alloc::Global;
@@ -79,93 +79,107 @@ fn thousand(alloc: Global) -> Result<Blocks<Ten>, NoMemory> {
     Ok(list)
 }
 
+/// Tells a word, and a number where there is one.
+fn tell_some(told: &mut Told, word: &str, number: Option<u64>) {
+    told.word(word);
+    match number {
+        Some(number) => told.with(" ", number),
+        None => told.word(" none"),
+    }
+}
+
+/// Puts an item in the place of another one; what stood there.
+fn put_over(told: &mut Told, list: &mut Blocks<Ten>, ten: u64, one: u64) -> Result<(), NoMemory> {
+    let before = list.put(Ten { ten, one })?;
+    tell_some(told, "put over", ones(before));
+    Ok(())
+}
+
+/// Takes an item out, where there is one.
+fn take_out(told: &mut Told, list: &mut Blocks<Ten>, ten: u64, one: u64) -> Result<(), NoMemory> {
+    let taken = list.take_out(&Ten { ten, one })?;
+    tell_some(told, ", taken", ones(taken));
+    Ok(())
+}
+
 /// Puts an item in the place of another one, and takes one out; what stood there.
-fn change(alloc: Global, list: &mut Blocks<Ten>) -> Result<String, NoMemory> {
-    let mut line = String::new(alloc);
-    let put = ones(list.put(Ten { ten: 30, one: 1 })?);
-    add_some(alloc, &mut line, "put over", put)?;
-    let taken = ones(list.take_out(&Ten { ten: 33, one: 5 })?);
-    add_some(alloc, &mut line, ", taken", taken)?;
-    let missed = ones(list.take_out(&Ten { ten: 34, one: 0 })?);
-    add_some(alloc, &mut line, ", taken", missed)?;
-    Ok(line)
+fn change(told: &mut Told, list: &mut Blocks<Ten>) -> Result<(), NoMemory> {
+    put_over(told, list, 30, 1)?;
+    take_out(told, list, 33, 5)?;
+    take_out(told, list, 34, 0)?;
+    told.word("\n");
+    Ok(())
 }
 
-/// What a list holds.
-fn told(alloc: Global, list: &Blocks<Ten>) -> Result<String, NoMemory> {
-    let mut line = String::new(alloc);
-    add(alloc, &mut line, "items", list.len() as u64)?;
-    add(alloc, &mut line, ", up to 33:", up_to(list, 33))?;
-    add(alloc, &mut line, ", up to 5000:", up_to(list, 5000))?;
-    add_some(alloc, &mut line, ", at 30:", found(list, 30))?;
-    add_some(alloc, &mut line, ", at 33:", found(list, 33))?;
-    Ok(line)
+/// Tells what a list holds.
+fn tell_list(told: &mut Told, list: &Blocks<Ten>) {
+    told.with("items ", list.len() as u64);
+    told.with(", up to 33: ", up_to(list, 33));
+    told.with(", up to 5000: ", up_to(list, 5000));
+    tell_some(told, ", at 30:", found(list, 30));
+    tell_some(told, ", at 33:", found(list, 33));
+    told.word("\n");
 }
 
-/// Copies of the items from a rank on, at most so many.
-fn run(alloc: Global, list: &Blocks<Ten>, from: usize, most: usize) -> Result<String, NoMemory> {
-    let mut line = String::new(alloc);
-    add(alloc, &mut line, "from", from as u64)?;
+/// Tells copies of the items from a rank on, at most so many.
+fn tell_run(told: &mut Told, list: &Blocks<Ten>, from: usize, most: usize) -> Result<(), NoMemory> {
     let run = list.copy_run(from, most)?;
+    told.with("from ", from as u64);
     'items: for item in run.as_slice() {
-        add(alloc, &mut line, ":", item.ten)?;
+        told.with(": ", item.ten);
     }
-    Ok(line)
+    told.word("\n");
+    Ok(())
 }
 
-/// The item of a rank, what stands from there on in one block, and the item once more, taken out.
-fn ranked(alloc: Global, list: &mut Blocks<Ten>, rank: usize) -> Result<String, NoMemory> {
-    let mut line = String::new(alloc);
+/// Tells the item of a rank, what stands from there on in one block, and the item once more, taken out.
+fn tell_ranked(told: &mut Told, list: &mut Blocks<Ten>, rank: usize) -> Result<(), NoMemory> {
     if rank < list.len() {
-        add(alloc, &mut line, "rank", rank as u64)?;
-        add(alloc, &mut line, ", of tens", list.get(rank).ten)?;
+        told.with("rank ", rank as u64);
+        told.with(", of tens ", list.get(rank).ten);
         let some = !list.piece(rank).is_empty();
-        line.push_str(if some { ", a piece" } else { ", no piece" })?;
+        told.word(if some { ", a piece" } else { ", no piece" });
         let taken = list.take_at(rank)?;
-        add(alloc, &mut line, ", taken", taken.one)?;
+        told.with(", taken ", taken.one);
     }
-    Ok(line)
+    told.word("\n");
+    Ok(())
 }
 
-/// What a list of a thousand items gives, while another holder keeps it as it was.
-pub fn add_lines(alloc: Global, lines: &mut Vec<String>) -> Result<(), NoMemory> {
-    let mut list = thousand(alloc)?;
-    let done = add_shared(alloc, &mut list, lines);
+fn tell_empty(alloc: Global, told: &mut Told) {
+    let list = Blocks::new(alloc);
+    tell_list(told, &list);
     drop(list);
-    done
 }
 
-fn add_shared(
+/// What a list gives, while another holder keeps it as it was.
+fn tell_changed(
     alloc: Global,
+    told: &mut Told,
     list: &mut Blocks<Ten>,
-    lines: &mut Vec<String>,
+    before: &Blocks<Ten>,
 ) -> Result<(), NoMemory> {
+    change(told, list)?;
+    tell_list(told, before);
+    tell_list(told, list);
+    tell_empty(alloc, told);
+    tell_ranked(told, list, 10)?;
+    tell_run(told, list, 9, 3)?;
+    tell_run(told, list, 996, 100)?;
+    tell_run(told, list, 2000, 9)
+}
+
+fn tell_shared(alloc: Global, told: &mut Told, list: &mut Blocks<Ten>) -> Result<(), NoMemory> {
     let before = list.share()?;
-    let done = add_changed(alloc, list, &before, lines);
+    let done = tell_changed(alloc, told, list, &before);
     drop(before);
     done
 }
 
-fn told_empty(alloc: Global) -> Result<String, NoMemory> {
-    let list = Blocks::new(alloc);
-    let told = told(alloc, &list);
+/// Tells what a list of a thousand items gives.
+pub fn tell(alloc: Global, told: &mut Told) -> Result<(), NoMemory> {
+    let mut list = thousand(alloc)?;
+    let done = tell_shared(alloc, told, &mut list);
     drop(list);
-    told
-}
-
-fn add_changed(
-    alloc: Global,
-    list: &mut Blocks<Ten>,
-    before: &Blocks<Ten>,
-    lines: &mut Vec<String>,
-) -> Result<(), NoMemory> {
-    lines.push(change(alloc, list)?)?;
-    lines.push(told(alloc, before)?)?;
-    lines.push(told(alloc, list)?)?;
-    lines.push(told_empty(alloc)?)?;
-    lines.push(ranked(alloc, list, 10)?)?;
-    lines.push(run(alloc, list, 9, 3)?)?;
-    lines.push(run(alloc, list, 996, 100)?)?;
-    lines.push(run(alloc, list, 2000, 9)?)?;
-    Ok(())
+    done
 }

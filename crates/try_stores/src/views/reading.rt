@@ -5,14 +5,15 @@ ghost use Rattle.rv_view.specs.Sights.{LaysSome};
 ghost use Rattle.rv_loading.specs.Laid.{IsEmpty, Laid};
 ghost use Rattle.try_stores.specs.Viewing.{IsFirst, IsKept, IsOf, IsOne, Stands, all_entries};
 
-use crate::views::lines::add;
+use crate::told::Told;
+use crate::values::one_value;
 use rv_blocks::Blocks;
 use rv_catalog::IndexDef;
 use rv_judge::{Steps, Uncounted};
 use rv_loading::{Fault, Loaded, Schema, fill, index_over};
 use rv_plain::Plain;
-use rv_reader::{Change, Reader, Store};
-use rv_value::{Items, NoMemory, Range, RowNo, Text, Value, Values, copy_slice};
+use rv_reader::{Change, Chunk, Reader, Store};
+use rv_value::{IndexEntry, Items, NoMemory, Range, RowNo, Text, copy_slice};
 use rv_view::laws::lays_kept;
 use rv_view::{Seen, View, frozen_of};
 use std::alloc::Global;
@@ -23,7 +24,7 @@ fn change(alloc: Global, row: u64, value: Option<i64>) -> Result<Change, NoMemor
     ensures { IfOk result (IsOf row) }
 {
     let values = match value {
-        Some(value) => Some(Values::of(alloc, vec![in alloc; Value::Int(value)]?)?),
+        Some(value) => Some(one_value(alloc, value)?),
         None => None,
     };
     Ok(Change {
@@ -171,76 +172,121 @@ fn all() -> Range
     }
 }
 
-/// The rows of the index's entries, in their order.
-fn entries<R: Reader<Ledger = Uncounted>>(alloc: Global, reader: &R) -> Result<String, NoMemory>
+/// Tells the rows of entries.
+fn tell_rows(told: &mut Told, entries: &[IndexEntry]) {
+    'entries: for entry in entries {
+        told.with(" ", entry.row.0);
+    }
+}
+
+/// Tells the rows of the next leaf; the entry with which the leaf behind it begins.
+fn tell_leaf<R: Reader<Ledger = Uncounted>>(
+    alloc: Global,
+    told: &mut Told,
+    reader: &R,
+    from: Option<IndexEntry>,
+) -> Result<Option<IndexEntry>, NoMemory>
     requires { CanScan (R.shown reader.now) 0 1 }
 {
     let mut steps = Steps::new(Uncounted);
-    let mut line = String::new(alloc);
-    line.push_str("entries")?;
+    let all = all();
+    let chunk = reader.chunk(alloc, 0, 1, from.as_ref(), &all, &mut steps);
+    drop(all);
+    drop(from);
+    let Chunk { entries, next } = chunk?;
+    tell_rows(told, entries.as_slice());
+    drop(entries);
+    Ok(next)
+}
+
+/// Tells the rows of the index's entries, in their order.
+fn tell_entries<R: Reader<Ledger = Uncounted>>(
+    alloc: Global,
+    told: &mut Told,
+    reader: &R,
+) -> Result<(), NoMemory>
+    requires { CanScan (R.shown reader.now) 0 1 }
+{
+    told.word("entries");
     let mut from = None;
     'leaves: for _leaf in 0..10u32 {
-        let chunk = reader.chunk(alloc, 0, 1, from.as_ref(), &all(), &mut steps)?;
-        'entries: for entry in chunk.entries.as_slice() {
-            add(alloc, &mut line, "", entry.row.0)?;
+        from = tell_leaf(alloc, told, reader, from)?;
+        if from.is_none() {
+            break;
         }
-        if chunk.next.is_none() {
-            return Ok(line);
-        }
-        from = chunk.next;
     }
-    Ok(line)
+    drop(from);
+    Ok(())
 }
 
-/// What a reader tells of the table at commit 1.
-#[derive(Clone, Copy)]
-struct Told {
-    estimate: u64,
-    rows: u64,
-    pages: u32,
-    page: usize,
-    is_row_one_there: bool,
+/// Tells how many rows a page has.
+fn tell_page<R: Reader<Ledger = Uncounted>>(
+    alloc: Global,
+    told: &mut Told,
+    reader: &R,
+) -> Result<(), NoMemory>
+    requires { CanRead (R.shown reader.now) 0 1 }
+{
+    let mut steps = Steps::new(Uncounted);
+    let page = reader.page(alloc, 0, 1, 0, &mut steps)?;
+    told.with(", rows of page 0: ", page.len() as u64);
+    Ok(())
 }
 
-fn tell<R: Reader<Ledger = Uncounted>>(alloc: Global, reader: &R) -> Result<Told, NoMemory>
+/// Tells whether row 1 is there.
+fn tell_row<R: Reader<Ledger = Uncounted>>(
+    alloc: Global,
+    told: &mut Told,
+    reader: &R,
+) -> Result<(), NoMemory>
+    requires { CanRead (R.shown reader.now) 0 1 }
+{
+    let mut steps = Steps::new(Uncounted);
+    let row = reader.fetch(alloc, 0, 1, RowNo(1), &mut steps)?;
+    told.word(if row.is_some() {
+        ", row 1 stands\n"
+    } else {
+        ", row 1 is gone\n"
+    });
+    drop(row);
+    Ok(())
+}
+
+/// Tells how much there may be of the index.
+fn tell_estimate<R: Reader<Ledger = Uncounted>>(told: &mut Told, reader: &R)
+    requires { CanScan (R.shown reader.now) 0 1 }
+{
+    let all = all();
+    told.with("; estimate ", reader.estimate(0, 1, &all).value);
+    drop(all);
+}
+
+/// Tells what a reader has of the table and its index at commit 1.
+fn tell_reader<R: Reader<Ledger = Uncounted>>(
+    alloc: Global,
+    told: &mut Told,
+    reader: &R,
+) -> Result<(), NoMemory>
     requires read { CanRead (R.shown reader.now) 0 1 }
     requires scan { CanScan (R.shown reader.now) 0 1 }
 {
-    let mut steps = Steps::new(Uncounted);
-    let estimate = reader.estimate(0, 1, &all()).value;
+    tell_entries(alloc, told, reader)?;
+    tell_estimate(told, reader);
     let sizes = reader.sizes(0, 1);
-    let page = reader.page(alloc, 0, 1, 0, &mut steps)?.len();
-    let row = reader.fetch(alloc, 0, 1, RowNo(1), &mut steps)?;
-    Ok(Told {
-        estimate,
-        rows: sizes.rows,
-        pages: sizes.pages,
-        page,
-        is_row_one_there: row.is_some(),
-    })
-}
-
-/// What is told, behind the rows of the entries.
-fn line_of(alloc: Global, mut line: String, told: Told) -> Result<String, NoMemory> {
-    add(alloc, &mut line, "; estimate", told.estimate)?;
-    add(alloc, &mut line, ", rows", told.rows)?;
-    add(alloc, &mut line, ", pages", u64::from(told.pages))?;
-    add(alloc, &mut line, ", rows of page 0:", told.page as u64)?;
-    line.push_str(if told.is_row_one_there {
-        ", row 1 stands"
-    } else {
-        ", row 1 is gone"
-    })?;
-    Ok(line)
+    told.with(", rows ", sizes.rows);
+    told.with(", pages ", u64::from(sizes.pages));
+    tell_page(alloc, told, reader)?;
+    tell_row(alloc, told, reader)
 }
 
 /// What a cursor reads over a view.
-fn seen<S: Store + Reader<Ledger = Uncounted>>(
+fn tell_seen<S: Store + Reader<Ledger = Uncounted>>(
     alloc: Global,
+    told: &mut Told,
     store: &S,
     view: &Option<View>,
     indexes: &[IndexDef],
-) -> Result<String, NoMemory>
+) -> Result<(), NoMemory>
     requires stands { Stands (S.shown store.now) indexes.now }
     requires lays { LaysSome (S.shown store.now) view.now }
 {
@@ -248,35 +294,33 @@ fn seen<S: Store + Reader<Ledger = Uncounted>>(
         reader: store,
         view,
     };
-    let line = entries(alloc, &seen)?;
-    let told = tell(alloc, &seen)?;
-    line_of(alloc, line, told)
+    tell_reader(alloc, told, &seen)
 }
 
 /// What a cursor reads without a view, with the one that it was given before the last two changes, and with the one
 /// after them.
-fn add_course<S: Store + Reader<Ledger = Uncounted>>(
+fn tell_course<S: Store + Reader<Ledger = Uncounted>>(
     alloc: Global,
+    told: &mut Told,
     store: &S,
     indexes: &[IndexDef],
-    lines: &mut Vec<String>,
 ) -> Result<(), NoMemory>
     requires { Stands (S.shown store.now) indexes.now }
 {
     let (mut view, mut written) = begin(alloc, store, indexes)?;
-    let done = add_views(alloc, store, indexes, &mut view, &mut written, lines);
+    let done = tell_views(alloc, told, store, indexes, &mut view, &mut written);
     drop(view);
     drop(written);
     done
 }
 
-fn add_views<S: Store + Reader<Ledger = Uncounted>>(
+fn tell_views<S: Store + Reader<Ledger = Uncounted>>(
     alloc: Global,
+    told: &mut Told,
     store: &S,
     indexes: &[IndexDef],
     view: &mut View,
     written: &mut Blocks<Change>,
-    lines: &mut Vec<String>,
 ) -> Result<(), NoMemory>
     requires stands { Stands (S.shown store.now) indexes.now }
     requires kept { IsKept (S.shown store.now) view.old written.old }
@@ -285,20 +329,20 @@ fn add_views<S: Store + Reader<Ledger = Uncounted>>(
     write(alloc, store, indexes, view, written, 0, 1, Some(5))?;
     write(alloc, store, indexes, view, written, 2, 33, Some(2))?;
     let earlier = opened(store, indexes, view, written)?;
-    let done = add_later(alloc, store, indexes, view, written, &earlier, lines);
+    let done = tell_later(alloc, told, store, indexes, view, written, &earlier);
     drop(earlier);
     done
 }
 
 /// The last two changes.
-fn add_later<S: Store + Reader<Ledger = Uncounted>>(
+fn tell_later<S: Store + Reader<Ledger = Uncounted>>(
     alloc: Global,
+    told: &mut Told,
     store: &S,
     indexes: &[IndexDef],
     view: &mut View,
     written: &mut Blocks<Change>,
     earlier: &Option<View>,
-    lines: &mut Vec<String>,
 ) -> Result<(), NoMemory>
     requires stands { Stands (S.shown store.now) indexes.now }
     requires kept { IsKept (S.shown store.now) view.old written.old }
@@ -307,35 +351,38 @@ fn add_later<S: Store + Reader<Ledger = Uncounted>>(
     write(alloc, store, indexes, view, written, 1, 2, None)?;
     write(alloc, store, indexes, view, written, 32, 33, None)?;
     let later = opened(store, indexes, view, written)?;
-    let done = add_seen(alloc, store, indexes, earlier, &later, lines);
+    let done = tell_all_seen(alloc, told, store, indexes, earlier, &later);
     drop(later);
     done
 }
 
-fn add_seen<S: Store + Reader<Ledger = Uncounted>>(
+fn tell_all_seen<S: Store + Reader<Ledger = Uncounted>>(
     alloc: Global,
+    told: &mut Told,
     store: &S,
     indexes: &[IndexDef],
     earlier: &Option<View>,
     later: &Option<View>,
-    lines: &mut Vec<String>,
 ) -> Result<(), NoMemory>
     requires stands { Stands (S.shown store.now) indexes.now }
     requires earlier { LaysSome (S.shown store.now) earlier.now }
     requires later { LaysSome (S.shown store.now) later.now }
 {
-    lines.push(seen(alloc, store, &None, indexes)?)?;
-    lines.push(seen(alloc, store, earlier, indexes)?)?;
-    lines.push(seen(alloc, store, later, indexes)?)?;
-    Ok(())
+    let none = None;
+    let done = tell_seen(alloc, told, store, &none, indexes);
+    drop(none);
+    done?;
+    tell_seen(alloc, told, store, earlier, indexes)?;
+    tell_seen(alloc, told, store, later, indexes)
 }
 
 /// What a cursor reads with the view that all changes make at once.
-fn whole<S: Store + Reader<Ledger = Uncounted>>(
+fn tell_whole<S: Store + Reader<Ledger = Uncounted>>(
     alloc: Global,
+    told: &mut Told,
     store: &S,
     indexes: &[IndexDef],
-) -> Result<String, NoMemory>
+) -> Result<(), NoMemory>
     requires { Stands (S.shown store.now) indexes.now }
 {
     let mut changes = Vec::with_capacity(alloc, 2)?;
@@ -350,59 +397,59 @@ fn whole<S: Store + Reader<Ledger = Uncounted>>(
             return Err(fault);
         }
     };
-    let told = seen_at_once(alloc, store, indexes, &view, &written);
+    let done = tell_at_once(alloc, told, store, indexes, &view, &written);
     drop(view);
     drop(written);
-    told
+    done
 }
 
-fn seen_at_once<S: Store + Reader<Ledger = Uncounted>>(
+fn tell_at_once<S: Store + Reader<Ledger = Uncounted>>(
     alloc: Global,
+    told: &mut Told,
     store: &S,
     indexes: &[IndexDef],
     view: &View,
     written: &Blocks<Change>,
-) -> Result<String, NoMemory>
+) -> Result<(), NoMemory>
     requires stands { Stands (S.shown store.now) indexes.now }
     requires kept { IsKept (S.shown store.now) view.now written.now }
 {
     let at_once = opened(store, indexes, view, written)?;
-    let told = seen(alloc, store, &at_once, indexes);
+    let done = tell_seen(alloc, told, store, &at_once, indexes);
     drop(at_once);
-    told
+    done
 }
 
 /// A transaction changes rows 0 to 32 in turn, and another one two rows at once.
-pub fn add_lines(alloc: Global, lines: &mut Vec<String>) -> Result<(), Fault> {
+pub fn tell(alloc: Global, told: &mut Told) -> Result<(), Fault> {
     let mut store = Plain::new(alloc)?;
-    let done = add_over(alloc, &mut store, lines);
+    let done = tell_over(alloc, told, &mut store);
     drop(store);
     done
 }
 
 /// Over an empty store.
-fn add_over<S: Store + Reader<Ledger = Uncounted>>(
+fn tell_over<S: Store + Reader<Ledger = Uncounted>>(
     alloc: Global,
+    told: &mut Told,
     store: &mut S,
-    lines: &mut Vec<String>,
 ) -> Result<(), Fault>
     requires { IsEmpty (S.shown store.old) }
 {
     let indexes = lay(alloc, store)?;
-    let done = add_both(alloc, store, indexes.as_slice(), lines);
+    let done = tell_both(alloc, told, store, indexes.as_slice());
     drop(indexes);
     Ok(done?)
 }
 
-fn add_both<S: Store + Reader<Ledger = Uncounted>>(
+fn tell_both<S: Store + Reader<Ledger = Uncounted>>(
     alloc: Global,
+    told: &mut Told,
     store: &S,
     indexes: &[IndexDef],
-    lines: &mut Vec<String>,
 ) -> Result<(), NoMemory>
     requires { Stands (S.shown store.now) indexes.now }
 {
-    add_course(alloc, store, indexes, lines)?;
-    lines.push(whole(alloc, store, indexes)?)?;
-    Ok(())
+    tell_course(alloc, told, store, indexes)?;
+    tell_whole(alloc, told, store, indexes)
 }

@@ -23,6 +23,7 @@ returns-clause-taken g c = if_ok_two c.take.result _ _ _ (λ taken answers ready
     counts = c.take.ensures.counts;
     once = c.take.ensures.once;
     stays = c.take.ensures.kept;
+    fits = c.take.ensures.left;
   };
   answers = answers;
   ready = ready;

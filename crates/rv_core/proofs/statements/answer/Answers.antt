@@ -11,6 +11,24 @@ use Rattle.rv_core.proofs.statements.answer.Goals as goal
 pub returns-in_err-place-clause-lost : goal.returns-in_err-place-clause-lost
 returns-in_err-place-clause-lost g c = on_err _ _ (leaves_text _ _ _ _ _)
 
+pub returns-in_err-cursor-clause-lost : goal.returns-in_err-cursor-clause-lost
+returns-in_err-cursor-clause-lost g c = on_err _ _ (leaves_text _ _ _ _ _)
+
+pub returns-in-Some-clause-ok : goal.returns-in-Some-clause-ok
+returns-in-Some-clause-ok g c =
+    let fetches = rw (c.in-Some.is, c.at-statement.ensures.is, c.in_ok-place.ensures.is) at (c.in_ok-cursor.ensures c.args.database.now.stand.db.schema) in
+    IfOk-weaker c.fetch.result _ _ (λ replies k. executes (statement_of c.args.text.now) (Fetch c.in-Some.cursor) _ _ _ replies fetches k) c.fetch.ensures.ok
+
+pub returns-in-Some-clause-handles : goal.returns-in-Some-clause-handles
+returns-in-Some-clause-handles g c =
+    let fetches = rw (c.in-Some.is, c.at-statement.ensures.is, c.in_ok-place.ensures.is) at (c.in_ok-cursor.ensures c.args.database.now.stand.db.schema) in
+    if_ok_two c.fetch.result _ _ _ (λ replies handles refused. handles_text _ (statement_of c.args.text.now) (Ok (Fetch c.in-Some.cursor)) _ _ replies.0 _ _ fetches handles refused) c.fetch.ensures.moves (ok_each c.fetch.result _ c.fetch.ensures.refuses)
+
+pub returns-in-Some-clause-lost : goal.returns-in-Some-clause-lost
+returns-in-Some-clause-lost g c =
+    let fetches = rw (c.in-Some.is, c.at-statement.ensures.is, c.in_ok-place.ensures.is) at (c.in_ok-cursor.ensures c.args.database.now.stand.db.schema) in
+    on_err_weaker c.fetch.result (λ k. leaves_asked _ _ (Ok (Fetch c.in-Some.cursor)) _ _ _ _ fetches k) c.fetch.ensures.lost
+
 pub perform-requires-clause-fits : goal.perform-requires-clause-fits
 perform-requires-clause-fits g c = rw c.in-Err.ensures.other.0 (rw c.catalog.ensures at c.in-Ok.ensures.fits)
 
@@ -24,19 +42,19 @@ pub returns-in-Ok-fetch_name-clause-ok : goal.returns-in-Ok-fetch_name-clause-ok
 returns-in-Ok-fetch_name-clause-ok g c =
     let asks = rw (c.catalog.ensures, c.at-statement.ensures.is, c.in_ok-place.ensures.is) at c.in-Ok.ensures.gives in
     let fetches = asks ∙ ap (λ (a : Resolved). Ok a) c.in-Ok-fetch_name.ensures.name in
-    IfOk-weaker c.fetch.result _ _ (λ replies k. executes (statement_of c.args.text.now) (Fetch c.in-Ok-fetch_name.name) _ _ _ replies fetches k) c.fetch.ensures.ok
+    IfOk-weaker c.fetch-in-Ok-fetch_name.result _ _ (λ replies k. executes (statement_of c.args.text.now) (Fetch c.in-Ok-fetch_name.name) _ _ _ replies fetches k) c.fetch-in-Ok-fetch_name.ensures.ok
 
 pub returns-in-Ok-fetch_name-clause-handles : goal.returns-in-Ok-fetch_name-clause-handles
 returns-in-Ok-fetch_name-clause-handles g c =
     let asks = rw (c.catalog.ensures, c.at-statement.ensures.is, c.in_ok-place.ensures.is) at c.in-Ok.ensures.gives in
     let fetches = asks ∙ ap (λ (a : Resolved). Ok a) c.in-Ok-fetch_name.ensures.name in
-    if_ok_two c.fetch.result _ _ _ (λ replies handles refused. handles_text _ (statement_of c.args.text.now) (Ok (Fetch c.in-Ok-fetch_name.name)) _ _ replies.0 _ _ fetches handles refused) c.fetch.ensures.moves (ok_each c.fetch.result _ c.fetch.ensures.refuses)
+    if_ok_two c.fetch-in-Ok-fetch_name.result _ _ _ (λ replies handles refused. handles_text _ (statement_of c.args.text.now) (Ok (Fetch c.in-Ok-fetch_name.name)) _ _ replies.0 _ _ fetches handles refused) c.fetch-in-Ok-fetch_name.ensures.moves (ok_each c.fetch-in-Ok-fetch_name.result _ c.fetch-in-Ok-fetch_name.ensures.refuses)
 
 pub returns-in-Ok-fetch_name-clause-lost : goal.returns-in-Ok-fetch_name-clause-lost
 returns-in-Ok-fetch_name-clause-lost g c =
     let asks = rw (c.catalog.ensures, c.at-statement.ensures.is, c.in_ok-place.ensures.is) at c.in-Ok.ensures.gives in
     let fetches = asks ∙ ap (λ (a : Resolved). Ok a) c.in-Ok-fetch_name.ensures.name in
-    on_err_weaker c.fetch.result (λ k. leaves_asked _ _ (Ok (Fetch c.in-Ok-fetch_name.name)) _ _ _ _ fetches k) c.fetch.ensures.lost
+    on_err_weaker c.fetch-in-Ok-fetch_name.result (λ k. leaves_asked _ _ (Ok (Fetch c.in-Ok-fetch_name.name)) _ _ _ _ fetches k) c.fetch-in-Ok-fetch_name.ensures.lost
 
 pub returns-in-Err-clause-ok : goal.returns-in-Err-clause-ok
 returns-in-Err-clause-ok g c =

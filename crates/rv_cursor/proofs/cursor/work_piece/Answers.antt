@@ -36,35 +36,35 @@ returns-in-Ok-Nothing-clause-worked g c =
     none_works _ c.args.cursor.now.plan c.take.new.self none (c.take.ensures.none none).1
 
 pub returns-in-Ok-Nothing-clause-moves : goal.returns-in-Ok-Nothing-clause-moves
-returns-in-Ok-Nothing-clause-moves g c = moves_by Take _ _ _ _ (takes_out (seen_by (g.R.Reader.shown c.args.reader.now) c.args.cursor.now) _ _ _ c.args.cursor.now.plan c.take.new.self c.take.ensures.reads c.take.ensures.counts c.take.ensures.once c.take.ensures.awaited c.take.ensures.pieces c.take.ensures.course c.take.ensures.stays)
+returns-in-Ok-Nothing-clause-moves g c = moves_by Take _ _ _ _ (takes_out (seen_by (g.R.Reader.shown c.args.reader.now) c.args.cursor.now) _ _ _ c.args.cursor.now.plan c.take.new.self c.take.ensures.reads c.take.ensures.counts c.take.ensures.once c.take.ensures.awaited c.take.ensures.pieces c.take.ensures.course c.take.ensures.stays c.take.ensures.fits)
 
 pub returns-in-Err-clause-moves : goal.returns-in-Err-clause-moves
-returns-in-Err-clause-moves g c = moves_by Take _ _ _ _ (takes_out (seen_by (g.R.Reader.shown c.args.reader.now) c.args.cursor.now) _ _ _ c.args.cursor.now.plan c.take.new.self c.take.ensures.reads c.take.ensures.counts c.take.ensures.once c.take.ensures.awaited c.take.ensures.pieces c.take.ensures.course c.take.ensures.stays)
+returns-in-Err-clause-moves g c = moves_by Take _ _ _ _ (takes_out (seen_by (g.R.Reader.shown c.args.reader.now) c.args.cursor.now) _ _ _ c.args.cursor.now.plan c.take.new.self c.take.ensures.reads c.take.ensures.counts c.take.ensures.once c.take.ensures.awaited c.take.ensures.pieces c.take.ensures.course c.take.ensures.stays c.take.ensures.fits)
 
 pub returns-in-Err-clause-lacks : goal.returns-in-Err-clause-lacks
-returns-in-Err-clause-lacks g c = lacks_take _ _ _ (λ none. let told = (c.take.ensures.none none).0 in let is = c.in-Err.is in cc) (takes_out (seen_by (g.R.Reader.shown c.args.reader.now) c.args.cursor.now) _ _ _ c.args.cursor.now.plan c.take.new.self c.take.ensures.reads c.take.ensures.counts c.take.ensures.once c.take.ensures.awaited c.take.ensures.pieces c.take.ensures.course c.take.ensures.stays)
+returns-in-Err-clause-lacks g c = lacks_take _ _ _ (λ none. let told = (c.take.ensures.none none).0 in let is = c.in-Err.is in cc) (takes_out (seen_by (g.R.Reader.shown c.args.reader.now) c.args.cursor.now) _ _ _ c.args.cursor.now.plan c.take.new.self c.take.ensures.reads c.take.ensures.counts c.take.ensures.once c.take.ensures.awaited c.take.ensures.pieces c.take.ensures.course c.take.ensures.stays c.take.ensures.fits)
 
 pub returns-in-Err-give-clause-lacks : goal.returns-in-Err-give-clause-lacks
 returns-in-Err-give-clause-lacks g c =
     let is = rw c.in-Ok-Piece.field-0-is at c.in-Ok-Piece.ensures.answers in
-    lacks_give _ _ _ c.in-Ok-Piece.piece.id c.args.cursor.now.plan c.take.new.self c.give.new.self is (takes_out (seen_by (g.R.Reader.shown c.args.reader.now) c.args.cursor.now) _ _ _ c.args.cursor.now.plan c.take.new.self c.take.ensures.reads c.take.ensures.counts c.take.ensures.once c.take.ensures.awaited c.take.ensures.pieces c.take.ensures.course c.take.ensures.stays) c.in-Err-give.ensures.err c.in-Err-give.ensures.quiet
+    lacks_give _ _ _ c.in-Ok-Piece.piece.id c.args.cursor.now.plan c.take.new.self c.give.new.self is (takes_out (seen_by (g.R.Reader.shown c.args.reader.now) c.args.cursor.now) _ _ _ c.args.cursor.now.plan c.take.new.self c.take.ensures.reads c.take.ensures.counts c.take.ensures.once c.take.ensures.awaited c.take.ensures.pieces c.take.ensures.course c.take.ensures.stays c.take.ensures.fits) c.in-Err-give.ensures.err c.in-Err-give.ensures.quiet
 
 pub returns-in-Err-give-clause-moves : goal.returns-in-Err-give-clause-moves
 returns-in-Err-give-clause-moves g c =
     let is = rw c.in-Ok-Piece.field-0-is at c.in-Ok-Piece.ensures.answers in
-    lacks_moves _ _ _ _ (lacks_give _ _ _ c.in-Ok-Piece.piece.id c.args.cursor.now.plan c.take.new.self c.give.new.self is (takes_out (seen_by (g.R.Reader.shown c.args.reader.now) c.args.cursor.now) _ _ _ c.args.cursor.now.plan c.take.new.self c.take.ensures.reads c.take.ensures.counts c.take.ensures.once c.take.ensures.awaited c.take.ensures.pieces c.take.ensures.course c.take.ensures.stays) c.in-Err-give.ensures.err c.in-Err-give.ensures.quiet)
+    lacks_moves _ _ _ _ (lacks_give _ _ _ c.in-Ok-Piece.piece.id c.args.cursor.now.plan c.take.new.self c.give.new.self is (takes_out (seen_by (g.R.Reader.shown c.args.reader.now) c.args.cursor.now) _ _ _ c.args.cursor.now.plan c.take.new.self c.take.ensures.reads c.take.ensures.counts c.take.ensures.once c.take.ensures.awaited c.take.ensures.pieces c.take.ensures.course c.take.ensures.stays c.take.ensures.fits) c.in-Err-give.ensures.err c.in-Err-give.ensures.quiet)
 
 pub returns-in-Ok-clause-worked : goal.returns-in-Ok-clause-worked
 returns-in-Ok-clause-worked g c =
     let seen = seen_by (g.R.Reader.shown c.args.reader.now) c.args.cursor.now in
     let ready = rw c.in-Ok-Piece.field-0-is at c.in-Ok-Piece.ensures.ready in
     let fits = c.take.ensures.fits in
-    back_is _ seen _ _ _ c.args.cursor.now.plan c.take.new.self _ c.take.ensures.reads c.take.ensures.counts c.take.ensures.once c.take.ensures.awaited c.take.ensures.pieces c.take.ensures.course c.take.ensures.stays c.in-Ok-Piece.ensures.spends (gives_back c.in-Ok._given _ seen _ _ c.in-Ok-Piece.piece _ c.take.new.self c.give.new.self ready c.sieve.ensures c.in-Ok.ensures.given c.in-Ok.ensures.obeys c.in-Ok.ensures.pieces c.give.ensures.counts (c.in-Ok.ensures.lowers seen fits) (c.in-Ok.ensures.less seen fits) (c.give.ensures.settled seen fits) (c.give.ensures.stays seen fits))
+    back_is _ seen _ _ _ c.args.cursor.now.plan c.take.new.self _ c.take.ensures.reads c.take.ensures.counts c.take.ensures.once c.take.ensures.awaited c.take.ensures.pieces c.take.ensures.course c.take.ensures.stays c.take.ensures.fits c.in-Ok-Piece.ensures.spends (gives_back c.in-Ok._given _ seen _ _ c.in-Ok-Piece.piece _ c.take.new.self c.give.new.self ready c.sieve.ensures c.in-Ok.ensures.given c.in-Ok.ensures.obeys c.in-Ok.ensures.pieces c.give.ensures.counts (c.in-Ok.ensures.lowers seen fits) (c.in-Ok.ensures.less seen fits) (c.give.ensures.settled seen fits) (c.give.ensures.stays seen fits) (c.give.ensures.fits seen fits))
 
 pub returns-in-Ok-clause-moves : goal.returns-in-Ok-clause-moves
 returns-in-Ok-clause-moves g c = back_moves _ _ _ _ (
     let seen = seen_by (g.R.Reader.shown c.args.reader.now) c.args.cursor.now in
     let ready = rw c.in-Ok-Piece.field-0-is at c.in-Ok-Piece.ensures.ready in
     let fits = c.take.ensures.fits in
-    back_is _ seen _ _ _ c.args.cursor.now.plan c.take.new.self _ c.take.ensures.reads c.take.ensures.counts c.take.ensures.once c.take.ensures.awaited c.take.ensures.pieces c.take.ensures.course c.take.ensures.stays c.in-Ok-Piece.ensures.spends (gives_back c.in-Ok._given _ seen _ _ c.in-Ok-Piece.piece _ c.take.new.self c.give.new.self ready c.sieve.ensures c.in-Ok.ensures.given c.in-Ok.ensures.obeys c.in-Ok.ensures.pieces c.give.ensures.counts (c.in-Ok.ensures.lowers seen fits) (c.in-Ok.ensures.less seen fits) (c.give.ensures.settled seen fits) (c.give.ensures.stays seen fits))
+    back_is _ seen _ _ _ c.args.cursor.now.plan c.take.new.self _ c.take.ensures.reads c.take.ensures.counts c.take.ensures.once c.take.ensures.awaited c.take.ensures.pieces c.take.ensures.course c.take.ensures.stays c.take.ensures.fits c.in-Ok-Piece.ensures.spends (gives_back c.in-Ok._given _ seen _ _ c.in-Ok-Piece.piece _ c.take.new.self c.give.new.self ready c.sieve.ensures c.in-Ok.ensures.given c.in-Ok.ensures.obeys c.in-Ok.ensures.pieces c.give.ensures.counts (c.in-Ok.ensures.lowers seen fits) (c.in-Ok.ensures.less seen fits) (c.give.ensures.settled seen fits) (c.give.ensures.stays seen fits) (c.give.ensures.fits seen fits))
     )

@@ -75,7 +75,7 @@ returns-in_err-offer-clause-held g c =
 pub returns-in_err-offer-clause-moves : goal.returns-in_err-offer-clause-moves
 returns-in_err-offer-clause-moves g c =
     let shown = g.R.Reader.shown c.args.reader.now in
-    moves_by Lost _ _ _ _ (front_err _ (seen_by shown c.args.cursor.now) _ _ _ _ c.args.cursor.now.plan c.step.new.self c.step.ensures.counts c.step.ensures.asks c.step.ensures.once c.in_err-offer.ensures.err c.step.ensures.lost)
+    moves_by Lost _ _ _ _ (front_err _ (seen_by shown c.args.cursor.now) _ _ _ _ c.args.cursor.now.plan c.step.new.self c.step.ensures.counts c.step.ensures.asks c.step.ensures.once c.in_err-offer.ensures.err c.step.ensures.lost c.step.ensures.fits)
 
 pub returns-in_ok-give-in-Row : goal.returns-in_ok-give-in-Row
 returns-in_ok-give-in-Row g c =
@@ -84,7 +84,7 @@ returns-in_ok-give-in-Row g c =
     let moves = rw c.in-Row.is at c.in_ok-offer.ensures.step in
     let brought = row_stays shown c.args.cursor.now c.step.new.self c.in-Row.offer c.replace.new.self c.replace.ensures.after empty c.requires.fits c.step.ensures.fits moves in
     let stays = stays_on shown _ _ _ brought c.work_beside.ensures.stays in
-    let front = front_ok (Row c.in-Row.offer) _ (seen_by shown c.args.cursor.now) _ _ _ _ c.args.cursor.now.plan c.step.new.self c.step.ensures.counts c.step.ensures.asks c.step.ensures.once moves (rw c.in-Row.is at c.in_ok-offer.ensures.spends) c.in_ok-offer.ensures.few in
+    let front = front_ok (Row c.in-Row.offer) _ (seen_by shown c.args.cursor.now) _ _ _ _ c.args.cursor.now.plan c.step.new.self c.step.ensures.counts c.step.ensures.asks c.step.ensures.once moves (rw c.in-Row.is at c.in_ok-offer.ensures.spends) c.in_ok-offer.ensures.few c.step.ensures.fits in
     record {
       fits = c.give-in-Row.ensures.fits shown stays.fits;
       same = same_on _ _ _ stays.same c.give-in-Row.ensures.same;
@@ -135,7 +135,7 @@ returns-in_err-give-in-Row-clause-moves g c =
     let shown = g.R.Reader.shown c.args.reader.now in
     let empty = not_some c.args.cursor.now.hand (sym c.is_some.ensures ∙ c.if-is_some.false) in
     let moves = rw c.in-Row.is at c.in_ok-offer.ensures.step in
-    let front = front_ok (Row c.in-Row.offer) _ (seen_by shown c.args.cursor.now) _ _ _ _ c.args.cursor.now.plan c.step.new.self c.step.ensures.counts c.step.ensures.asks c.step.ensures.once moves (rw c.in-Row.is at c.in_ok-offer.ensures.spends) c.in_ok-offer.ensures.few in
+    let front = front_ok (Row c.in-Row.offer) _ (seen_by shown c.args.cursor.now) _ _ _ _ c.args.cursor.now.plan c.step.new.self c.step.ensures.counts c.step.ensures.asks c.step.ensures.once moves (rw c.in-Row.is at c.in_ok-offer.ensures.spends) c.in_ok-offer.ensures.few c.step.ensures.fits in
     moves_given _ _ _ _ c.work_beside.new.cursor.plan c.give-in-Row.new.cursor.plan c.give-in-Row.ensures.plan (moves_on _ _ _ _ _ _ _ c.step.ensures.stays refl (front_moves (Row c.in-Row.offer) _ _ _ _ front) c.work_beside.ensures.moves)
 
 pub returns-in_err-give-in-Row-clause-stays_rule : goal.returns-in_err-give-in-Row-clause-stays_rule
@@ -149,7 +149,7 @@ returns-in-Working g c =
     let moves = rw c.in-Working.is at c.in_ok-offer.ensures.step in
     let kept = kept_stays shown c.args.cursor.now c.step.new.self empty c.requires.fits c.step.ensures.fits moves.asked moves.step in
     let stays = stays_on shown _ _ _ kept c.work_beside-in-Working.ensures.stays in
-    let front = front_ok Working _ (seen_by shown c.args.cursor.now) _ _ _ _ c.args.cursor.now.plan c.step.new.self c.step.ensures.counts c.step.ensures.asks c.step.ensures.once moves (rw c.in-Working.is at c.in_ok-offer.ensures.spends) c.in_ok-offer.ensures.few in
+    let front = front_ok Working _ (seen_by shown c.args.cursor.now) _ _ _ _ c.args.cursor.now.plan c.step.new.self c.step.ensures.counts c.step.ensures.asks c.step.ensures.once moves (rw c.in-Working.is at c.in_ok-offer.ensures.spends) c.in_ok-offer.ensures.few c.step.ensures.fits in
     record {
       fits = stays.fits;
       same = stays.same;
@@ -169,7 +169,7 @@ returns-in_ok-twice-in-End g c =
     let empty = not_some c.args.cursor.now.hand (sym c.is_some.ensures ∙ c.if-is_some.false) in
     let moves = rw c.in-End.is at c.in_ok-offer.ensures.step in
     let kept = kept_stays shown c.args.cursor.now c.step.new.self empty c.requires.fits c.step.ensures.fits moves.asked (none_moved _ _ moves.step.0 moves.step.1) in
-    let front = front_ok End _ (seen_by shown c.args.cursor.now) _ _ _ _ c.args.cursor.now.plan c.step.new.self c.step.ensures.counts c.step.ensures.asks c.step.ensures.once moves (rw c.in-End.is at c.in_ok-offer.ensures.spends) c.in_ok-offer.ensures.few in
+    let front = front_ok End _ (seen_by shown c.args.cursor.now) _ _ _ _ c.args.cursor.now.plan c.step.new.self c.step.ensures.counts c.step.ensures.asks c.step.ensures.once moves (rw c.in-End.is at c.in_ok-offer.ensures.spends) c.in_ok-offer.ensures.few c.step.ensures.fits in
     record {
       fits = kept.fits;
       same = kept.same;
@@ -217,5 +217,5 @@ returns-in_err-twice-in-End-clause-moves g c =
     let shown = g.R.Reader.shown c.args.reader.now in
     let empty = not_some c.args.cursor.now.hand (sym c.is_some.ensures ∙ c.if-is_some.false) in
     let moves = rw c.in-End.is at c.in_ok-offer.ensures.step in
-    let front = front_ok End _ (seen_by shown c.args.cursor.now) _ _ _ _ c.args.cursor.now.plan c.step.new.self c.step.ensures.counts c.step.ensures.asks c.step.ensures.once moves (rw c.in-End.is at c.in_ok-offer.ensures.spends) c.in_ok-offer.ensures.few in
+    let front = front_ok End _ (seen_by shown c.args.cursor.now) _ _ _ _ c.args.cursor.now.plan c.step.new.self c.step.ensures.counts c.step.ensures.asks c.step.ensures.once moves (rw c.in-End.is at c.in_ok-offer.ensures.spends) c.in_ok-offer.ensures.few c.step.ensures.fits in
     front_moves End _ _ _ _ front

@@ -7,7 +7,7 @@ use Rattle.rv_cursor.specs.declared.cursor.Open.{Open}
 use Rattle.rv_cursor.specs.Left.{seen_at}
 use Rattle.rv_core.specs.Db.{base_of, seen}
 use Rattle.rv_core.specs.Doing.{opening_base}
-use Rattle.rv_core.specs.Obeying.{IsBounded}
+use Rattle.rv_core.specs.Obeying.{BeginsWithin}
 use Rattle.rv_core.proofs.Calling.{opened_rows, opening_snapshot, opens_does, opens_refused}
 use Rattle.rv_core.proofs.Databases.{fresh_open, opened_asked, opens_standing}
 use Rattle.rv_core.proofs.Opens.{pushed_seen}
@@ -71,6 +71,6 @@ returns-clause-adds g c judge opened =
       fits = c.in-Ok-plan_cursor.ensures.fits;
       leads = subst (λ (f : Option Frozen). LeadsWith (seen_at shown cursor.snap f) cursor.plan) (sym over) (subst (λ (n : ℕ). LeadsWith (seen_at shown n c.in-Ok-freeze.frozen) cursor.plan) (sym at) c.in-Ok-plan_cursor.ensures.leads);
       stage = c.in-Ok-plan_cursor.ensures.stage;
-      bounds = subst (λ (f : Option Frozen). IsBounded (seen_at shown cursor.snap f) c.args.select.now c.self.inside.catalog.indexes cursor.snap cursor.plan) (sym over)
-          (subst (λ (n : ℕ). IsBounded (seen_at shown n c.in-Ok-freeze.frozen) c.args.select.now c.self.inside.catalog.indexes n cursor.plan) (sym at) c.in-Ok-plan_cursor.ensures.bounds);
+      bounds = subst (λ (f : Option Frozen). BeginsWithin (seen_at shown cursor.snap f) c.args.select.now c.self.inside.catalog.indexes cursor.snap cursor.plan) (sym over)
+          (subst (λ (n : ℕ). BeginsWithin (seen_at shown n c.in-Ok-freeze.frozen) c.args.select.now c.self.inside.catalog.indexes n cursor.plan) (sym at) c.in-Ok-plan_cursor.ensures.bounds);
     }

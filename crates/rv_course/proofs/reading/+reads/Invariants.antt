@@ -1,5 +1,0 @@
-use Rattle.std.proofs.Common.{length}
-use Rattle.rv_course.proofs.reading.+reads.Given as goal
-
-abbrev pub decreases-reads : goal.decreases-reads
-decreases-reads l = length l.events.now

@@ -1,5 +1,0 @@
-use Rattle.try_stores.specs.Clocked.{Stands}
-use Rattle.try_stores.proofs.records.told_of.Given as goal
-
-abbrev pub invariant-acts : goal.invariant-acts
-invariant-acts l = Stands l.clock.last l.clock.horizon l.records
