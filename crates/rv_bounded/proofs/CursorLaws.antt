@@ -4,13 +4,15 @@ use Rattle.rv_judge.specs.declared.judging.Facts.{Facts}
 use Rattle.rv_judge.specs.Verdicts.{Ruling}
 use Rattle.rv_jscan.specs.declared.jscan.Given.TheVariants.{Accepted}
 use Rattle.rv_reader.specs.Shown.{Shown}
-use Rattle.rv_join.specs.Plans.{Planned}
+use Rattle.rv_join.specs.Plans.{PlanFits, Planned}
+use Rattle.rv_cursor.specs.declared.cursor.Open.{Open}
 use Rattle.rv_cursor.specs.Left.{seen_at, seen_by}
 use Rattle.rv_cursor.specs.Moves.{Move, MovesBy, MovesByAll, Ruled, ruled}
 use Rattle.rv_cursor.specs.Moves.Move.{Front, Lost, Take, Give}
-use Rattle.rv_core.specs.Short.{CallMoves, Held}
+use Rattle.rv_core.specs.Short.{Held}
 use Rattle.skew_judges.specs.Guard.{IsBounded}
-use Rattle.rv_bounded.specs.Cursors.{CallsSpend, CursorsAreBounded, FastCursorsAreBounded, MoveLoses, MovesLose, OpensBegin}
+use Rattle.rv_bounded.specs.Cursors.{CallDoes, CallGives, CallSpends, CallsSpend, CursorCall, CursorsAreBounded, FastCursorsAreBounded, MoveLoses, MovesLose, OpensBegin}
+use Rattle.rv_bounded.specs.Cursors.CursorCall.{Moving, Giving}
 use Rattle.rv_bounded.specs.OtherPlans.{RacedCursorsAreBounded, UnitedCursorsAreBounded}
 use Rattle.rv_bounded.specs.Plans.{PlanCall, PlanSpends, PlanSpendsAll}
 use Rattle.rv_bounded.specs.Plans.PlanCall.{Steps, Takes, Gives}
@@ -88,23 +90,82 @@ moves_spend (move ∷ moves) would shown old new lost rule made loses =
     let last = move_spends move would shown made.0 new loses.1 rule made.2 loses.3 in
     (last.0 ∷ first.0, (made.0.plan, loses.0, loses.1, first.1, last.1, loses.4))
 
--- what a cursor sees stays
-sight_stays : (moves : List Move) (old new : Held) → CallMoves moves old new → seen_by new.store new.cursor ≡ seen_by old.store old.cursor
-sight_stays moves old new call = call.sees ∙ (λ i. seen_at old.store (call.same.snap i) (call.same.frozen i))
+moves_fit : (moves : List Move) (would : ℕ → Facts → Ruling) (shown : Shown) (old new : Ruled) → MovesByAll moves would shown old new → PlanFits shown old.plan → PlanFits shown new.plan
+moves_fit [] would shown old new same fits = subst (λ (r : Ruled). PlanFits shown r.plan) (sym same) fits
+moves_fit (Front ∷ moves) would shown old new made fits = made.2.1.fits
+moves_fit (Lost ∷ moves) would shown old new made fits = made.2.fits
+moves_fit (Take ∷ moves) would shown old new made fits = made.2.fits
+moves_fit (Give ∷ moves) would shown old new made fits = made.2.fits
 
-sights_stay : (calls : List (List Move)) (lost : ℕ) (old new : Held) → CallsSpend calls lost old new → seen_by new.store new.cursor ≡ seen_by old.store old.cursor
-sights_stay [] lost old new same = ap (λ (h : Held). seen_by h.store h.cursor) same
-sights_stay (moves ∷ calls) lost old new made = sight_stays moves made.0 new made.4.call ∙ sights_stay calls made.1 old made.0 made.3
+-- what a cursor sees, and what calls are to its plan
+abbrev sight : Held → Shown
+sight h = seen_by h.store h.cursor
 
-calls_spend : (calls : List (List Move)) (lost : ℕ) (old new : Held) → CallsSpend calls lost old new → (plans : List PlanCall) × PlanSpendsAll plans (seen_by old.store old.cursor) lost old.cursor.plan new.cursor.plan
-calls_spend [] lost old new same = ([], ap (λ (h : Held). h.cursor.plan) same)
-calls_spend (moves ∷ calls) lost old new made =
+record Spent (lost : ℕ) (old new : Held) : Type 0 where
+  pub plans : List PlanCall
+  pub spends : PlanSpendsAll plans (sight old) lost old.cursor.plan new.cursor.plan
+  pub sees : sight new ≡ sight old
+  pub fits : PlanFits (sight old) new.cursor.plan
+
+moving : (moves : List Move) (lost : ℕ) (old new : Held) → PlanFits (sight old) old.cursor.plan → CallSpends moves lost old new → Spent lost old new
+moving moves lost old new fits call =
+    let own = moves_spend moves call.call.would (sight old) (ruled old.cursor call.call.state) (ruled new.cursor call.call.after) lost call.bounded call.call.made call.loses in
+    record {
+      plans = own.0;
+      spends = own.1;
+      sees = call.call.sees ∙ (λ i. seen_at old.store (call.call.same.snap i) (call.call.same.frozen i));
+      fits = moves_fit moves call.call.would (sight old) (ruled old.cursor call.call.state) (ruled new.cursor call.call.after) call.call.made fits;
+    }
+
+none_lost : (lost : ℕ) → 0 + 0 ≤ lost
+none_lost lost = omega arith
+
+one_call : (call : PlanCall) (shown : Shown) (lost : ℕ) (old new : Planned) → PlanSpends call shown 0 old new → PlanSpendsAll (call ∷ []) shown lost old new
+one_call call shown lost old new spends = (old, 0, 0, refl, spends, none_lost lost)
+
+giving : (lost : ℕ) (old new : Held) → PlanFits (sight old) old.cursor.plan → CallGives old new → Spent lost old new
+giving lost old new fits call =
+    let gives = call.gives in
+    let here : PlanFits (seen_by old.store gives.cursor) gives.cursor.plan = subst (λ (c : Open). PlanFits (seen_by old.store c) c.plan) (sym call.was) fits in
+    let left : PlanFits (seen_by old.store gives.cursor) gives.left.plan = gives.fits old.store here in
+    let made : PlanSpends Gives (seen_by old.store gives.cursor) 0 gives.cursor.plan gives.left.plan = record {
+      would = call.would;
+      bounded = call.bounded;
+      does = record { state = call.state; after = call.after; piece = call.piece; given = call.given; asked = (gives.stays old.store here).asked; answers = gives.answers; obeys = gives.obeys; counts = gives.counts; fits = left };
+      loses = tt;
+    } in
+    let from : PlanSpends Gives (sight old) 0 old.cursor.plan gives.left.plan = subst (λ (c : Open). PlanSpends Gives (seen_by old.store c) 0 c.plan gives.left.plan) call.was made in
+    let to : PlanSpends Gives (sight old) 0 old.cursor.plan new.cursor.plan = subst (λ (c : Open). PlanSpends Gives (sight old) 0 old.cursor.plan c.plan) call.is from in
+    let snap : new.cursor.snap ≡ old.cursor.snap = ap (λ (c : Open). c.snap) (sym call.is) ∙ ap (λ (c : Open). c.snap) gives.calls.same ∙ ap (λ (c : Open). c.snap) call.was in
+    let frozen : new.cursor.frozen ≡ old.cursor.frozen = ap (λ (c : Open). c.frozen) (sym call.is) ∙ ap (λ (c : Open). c.frozen) gives.calls.same ∙ ap (λ (c : Open). c.frozen) call.was in
+    record {
+      plans = Gives ∷ [];
+      spends = one_call Gives (sight old) lost old.cursor.plan new.cursor.plan to;
+      sees = λ i. seen_at (call.store i) (snap i) (frozen i);
+      fits = to.does.fits;
+    }
+
+call_spends : (call : CursorCall) (lost : ℕ) (old new : Held) → PlanFits (sight old) old.cursor.plan → CallDoes call lost old new → Spent lost old new
+call_spends (Moving moves) lost old new fits does = moving moves lost old new fits does
+call_spends Giving lost old new fits does = giving lost old new fits does
+
+calls_spend : (calls : List CursorCall) (lost : ℕ) (old new : Held) → PlanFits (sight old) old.cursor.plan → CallsSpend calls lost old new → Spent lost old new
+calls_spend [] lost old new fits same = record {
+  plans = [];
+  spends = ap (λ (h : Held). h.cursor.plan) same;
+  sees = ap sight same;
+  fits = subst (λ (h : Held). PlanFits (sight old) h.cursor.plan) (sym same) fits;
+}
+calls_spend (call ∷ calls) lost old new fits made =
     let mid = made.0 in
-    let call = made.4 in
-    let first = calls_spend calls made.1 old mid made.3 in
-    let own = moves_spend moves call.call.would (seen_by mid.store mid.cursor) (ruled mid.cursor call.call.state) (ruled new.cursor call.call.after) made.2 call.bounded call.call.made call.loses in
-    let seen : PlanSpendsAll own.0 (seen_by old.store old.cursor) made.2 mid.cursor.plan new.cursor.plan = subst (λ (s : Shown). PlanSpendsAll own.0 s made.2 mid.cursor.plan new.cursor.plan) (sights_stay calls made.1 old mid made.3) own.1 in
-    (own.0 ++ first.0, spends_on own.0 first.0 (seen_by old.store old.cursor) made.1 made.2 lost old.cursor.plan mid.cursor.plan new.cursor.plan made.5 first.1 seen)
+    let first = calls_spend calls made.1 old mid fits made.3 in
+    let last = call_spends call made.2 mid new (subst (λ (s : Shown). PlanFits s mid.cursor.plan) (sym first.sees) first.fits) made.4 in
+    record {
+      plans = last.plans ++ first.plans;
+      spends = spends_on last.plans first.plans (sight old) made.1 made.2 lost old.cursor.plan mid.cursor.plan new.cursor.plan made.5 first.spends (subst (λ (s : Shown). PlanSpendsAll last.plans s made.2 mid.cursor.plan new.cursor.plan) first.sees last.spends);
+      sees = last.sees ∙ first.sees;
+      fits = subst (λ (s : Shown). PlanFits s new.cursor.plan) first.sees last.fits;
+    }
 
 -- THE LAWS
 
@@ -113,20 +174,20 @@ opens_begin race shown s db session name old new opens one = record { fits = ope
 
 pub cursors_bounded : CursorsAreBounded
 cursors_bounded calls lost opened now v opens alone few made =
-    let plans = calls_spend calls lost opened now made in
-    plans_bounded (seen_by opened.store opened.cursor) plans.0 lost opened.cursor.plan now.cursor.plan v opens alone few plans.1
+    let plans = calls_spend calls lost opened now opens.begins.fits made in
+    plans_bounded (seen_by opened.store opened.cursor) plans.plans lost opened.cursor.plan now.cursor.plan v opens alone few plans.spends
 
 pub fast_cursors_bounded : FastCursorsAreBounded
 fast_cursors_bounded calls lost opened now v opens fast few made =
-    let plans = calls_spend calls lost opened now made in
-    fast_plans_bounded (seen_by opened.store opened.cursor) plans.0 lost opened.cursor.plan now.cursor.plan v opens fast few plans.1
+    let plans = calls_spend calls lost opened now opens.begins.fits made in
+    fast_plans_bounded (seen_by opened.store opened.cursor) plans.plans lost opened.cursor.plan now.cursor.plan v opens fast few plans.spends
 
 pub raced_cursors_bounded : RacedCursorsAreBounded
 raced_cursors_bounded calls lost opened now r begins few made =
-    let plans = calls_spend calls lost opened now made in
-    raced_plans_bounded (seen_by opened.store opened.cursor) plans.0 lost opened.cursor.plan now.cursor.plan r begins few plans.1
+    let plans = calls_spend calls lost opened now begins.fits made in
+    raced_plans_bounded (seen_by opened.store opened.cursor) plans.plans lost opened.cursor.plan now.cursor.plan r begins few plans.spends
 
 pub united_cursors_bounded : UnitedCursorsAreBounded
 united_cursors_bounded calls lost opened now u begins few less made =
-    let plans = calls_spend calls lost opened now made in
-    united_plans_bounded (seen_by opened.store opened.cursor) plans.0 lost opened.cursor.plan now.cursor.plan u begins few less plans.1
+    let plans = calls_spend calls lost opened now begins.fits made in
+    united_plans_bounded (seen_by opened.store opened.cursor) plans.plans lost opened.cursor.plan now.cursor.plan u begins few less plans.spends

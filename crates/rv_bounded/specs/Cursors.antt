@@ -7,13 +7,17 @@ use Rattle.rv_judge.specs.Verdicts.{Ruling}
 use Rattle.rv_catalog.specs.declared.def.Select.{Select}
 use Rattle.rv_reader.specs.Shown.{Shown}
 use Rattle.rv_model.specs.declared.state.State.{State}
+use Rattle.rv_jscan.specs.declared.jscan.Given.{Given}
+use Rattle.rv_jscan.specs.Pieces.{Pieced}
 use Rattle.rv_retrieval.specs.Shape.{Shape}
 use Rattle.rv_join.specs.Alone.{IsAlone}
 use Rattle.rv_join.specs.Plans.{plan_trace}
+use Rattle.rv_cursor.specs.declared.cursor.Open.{Open}
 use Rattle.rv_cursor.specs.Left.{seen_by}
 use Rattle.rv_cursor.specs.Moves.{Move, MovesBy, MovesByAll, Ruled, ruled}
 use Rattle.rv_cursor.specs.Moves.Move.{Front, Lost, Take, Give}
 use Rattle.rv_core.specs.Obeying.{OpensPlan, Plans}
+use Rattle.rv_core.specs.Pieces.{GivesAt}
 use Rattle.rv_core.specs.Short.{CallMoves, Held}
 use Rattle.skew_judges.specs.Guard.{IsBounded}
 use Rattle.rv_bounded.specs.Bounds.{reads_told, spare}
@@ -41,11 +45,36 @@ pub record CallSpends (moves : List Move) (lost : ℕ) (old new : Held) : Type 0
   pub loses : MovesLose moves call.would (seen_by old.store old.cursor) (ruled old.cursor call.state)
       (ruled new.cursor call.after) call.made lost
 
--- so do calls one after another, the last one first in the list
-abbrev pub CallsSpend : List (List Move) → ℕ → Held → Held → Type 0
+-- A PIECE IS GIVEN TO THE CURSOR by a call of its own, under a judge that is bounded; what the store shows stays
+pub record CallGives (old new : Held) : Type 0 where
+  pub would : ℕ → Facts → Ruling
+  pub bounded : IsBounded would
+  pub state : ℕ
+  pub after : ℕ
+  pub place : ℕ
+  pub opens : List Open
+  pub later : List Open
+  pub piece : Pieced
+  pub given : Given
+  pub gives : GivesAt would state after place opens piece given later
+  pub was : gives.cursor ≡ old.cursor
+  pub is : gives.left ≡ new.cursor
+  pub store : new.store ≡ old.store
+
+-- a call of a core, as a cursor sees it: it moves its plan, or gives it a piece
+pub data CursorCall : Type 0 where
+  Moving : List Move → CursorCall
+  Giving : CursorCall
+
+abbrev pub CallDoes : CursorCall → ℕ → Held → Held → Type 0
+CallDoes (Moving moves) lost old new = CallSpends moves lost old new
+CallDoes Giving lost old new = CallGives old new
+
+-- such calls one after another, the last one first in the list
+abbrev pub CallsSpend : List CursorCall → ℕ → Held → Held → Type 0
 CallsSpend [] lost old new = new ≡ old
-CallsSpend (moves ∷ calls) lost old new =
-    (mid : Held) × (m k : ℕ) × CallsSpend calls m old mid × CallSpends moves k mid new × (m + k ≤ lost)
+CallsSpend (call ∷ calls) lost old new =
+    (mid : Held) × (m k : ℕ) × CallsSpend calls m old mid × CallDoes call k mid new × (m + k ≤ lost)
 
 -- LAW: the plan of a cursor that an OPEN of a core adds begins so, over one FROM item
 abbrev pub OpensBegin : Type 0
@@ -60,7 +89,7 @@ OpensBegin =
 -- own
 abbrev pub CursorsAreBounded : Type 0
 CursorsAreBounded =
-    (calls : List (List Move)) (lost : ℕ) (opened now : Held) (v : Box Shape Global)
+    (calls : List CursorCall) (lost : ℕ) (opened now : Held) (v : Box Shape Global)
     → PlanOpens (seen_by opened.store opened.cursor) opened.cursor.plan v → v.value.strategy ≡ BackgroundOnly
     → (seen_by opened.store opened.cursor).pages v.value.query.table v.value.query.snap < 2 ^ 63
     → CallsSpend calls lost opened now
@@ -73,7 +102,7 @@ CursorsAreBounded =
 -- and of a table that has fewer than 64 pages an eighth of them more
 abbrev pub FastCursorsAreBounded : Type 0
 FastCursorsAreBounded =
-    (calls : List (List Move)) (lost : ℕ) (opened now : Held) (v : Box Shape Global)
+    (calls : List CursorCall) (lost : ℕ) (opened now : Held) (v : Box Shape Global)
     → PlanOpens (seen_by opened.store opened.cursor) opened.cursor.plan v → v.value.strategy ≡ FastFirst
     → (seen_by opened.store opened.cursor).pages v.value.query.table v.value.query.snap < 2 ^ 63
     → CallsSpend calls lost opened now

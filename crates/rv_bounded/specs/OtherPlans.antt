@@ -8,10 +8,9 @@ use Rattle.rv_access.specs.declared.racing.RacedQuery.{RacedQuery}
 use Rattle.rv_access.specs.declared.uniting.UnitedQuery.{UnitedQuery}
 use Rattle.rv_join.specs.Plans.{Planned, plan_trace}
 use Rattle.rv_cursor.specs.Left.{seen_by}
-use Rattle.rv_cursor.specs.Moves.{Move}
 use Rattle.rv_core.specs.Short.{Held}
 use Rattle.rv_bounded.specs.Bounds.{reads_told}
-use Rattle.rv_bounded.specs.Cursors.{CallsSpend}
+use Rattle.rv_bounded.specs.Cursors.{CallsSpend, CursorCall}
 use Rattle.rv_bounded.specs.Plans.{PlanBegins, PlanCall, PlanSpendsAll}
 
 -- the pages of the table of a race, as it is seen
@@ -43,7 +42,7 @@ UnitedPlansAreBounded =
 -- LAW: so do cursors with such plans, whatever calls of the core come, each under a judge of its own
 abbrev pub RacedCursorsAreBounded : Type 0
 RacedCursorsAreBounded =
-    (calls : List (List Move)) (lost : ℕ) (opened now : Held) (r : Box RacedQuery Global)
+    (calls : List CursorCall) (lost : ℕ) (opened now : Held) (r : Box RacedQuery Global)
     → PlanBegins (seen_by opened.store opened.cursor) opened.cursor.plan (Racing r)
     → raced_pages (seen_by opened.store opened.cursor) r.value < 2 ^ 63 → CallsSpend calls lost opened now
     → reads_told (plan_trace now.cursor.plan)
@@ -51,7 +50,7 @@ RacedCursorsAreBounded =
 
 abbrev pub UnitedCursorsAreBounded : Type 0
 UnitedCursorsAreBounded =
-    (calls : List (List Move)) (lost : ℕ) (opened now : Held) (u : Box UnitedQuery Global)
+    (calls : List CursorCall) (lost : ℕ) (opened now : Held) (u : Box UnitedQuery Global)
     → PlanBegins (seen_by opened.store opened.cursor) opened.cursor.plan (Uniting u)
     → length u.value.union.plans ≤ 2 ^ 32 → united_pages (seen_by opened.store opened.cursor) u.value < 2 ^ 63
     → CallsSpend calls lost opened now

@@ -76,7 +76,8 @@ abbrev pub numbered : ℕ → List Open → Option ℕ
 numbered number opens = position (λ (c : Open). c.number == number) opens
 
 -- A GIVE to the cursor in a place: accepted exactly where the piece is the awaited one, once taken; an accepted piece
--- is counted and the judge obeyed, a stale one changes nothing
+-- is counted and the judge obeyed, a stale one changes nothing; what was drawn from
+-- what the cursor sees still is, and its rest stays
 pub record GivesAt (would : ℕ → Facts → Ruling) (state after : ℕ) (place : ℕ) (old : List Open) (piece : Pieced)
     (given : Given) (new : List Open) : Type 0 where
   pub cursor : Open
@@ -86,6 +87,9 @@ pub record GivesAt (would : ℕ → Facts → Ruling) (state after : ℕ) (place
   pub obeys : GivesOn would state after piece given (waiting cursor.plan) (waited cursor.plan left.plan)
   pub pieces : CountsPiece given (plan_pieces cursor.plan) (plan_pieces left.plan)
   pub counts : SameCounts (plan_trace cursor.plan) (plan_trace left.plan)
+  pub stays : (shown : Shown) → PlanFits (seen_by shown cursor) cursor.plan
+      → PlanStays (seen_by shown cursor) cursor.plan left.plan
+  pub fits : (shown : Shown) → PlanFits (seen_by shown cursor) cursor.plan → PlanFits (seen_by shown cursor) left.plan
 
 -- What a give answers: that of the piece's cursor, and stale with nothing awaited where that is not open.
 abbrev pub GivesTo : Option ℕ → (ℕ → Facts → Ruling) → ℕ → ℕ → List Open → Pieced → Given → List Open → Type 0

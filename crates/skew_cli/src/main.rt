@@ -2,14 +2,26 @@
 //! transcript or summary on standard output; or the lines of standard input, each answered before the next one is read.
 #![tactic(auto)]
 
-use rv_io::{StdSink, StdSource};
-use rv_judge::Judge;
+ghost use Rattle.std.specs.Prelude.{◌≡◌, IfOk, List, None, Some, false, true, ℕ};
+ghost use Rattle.std.specs.Io.KnownBytes.{Appends};
+ghost use Rattle.skew_judges.specs.Guard.{IsBounded};
+ghost use Rattle.rv_words.specs.declared.choices.Asked.{Asked as Askings};
+ghost use Rattle.rv_words.specs.Words.{Ask};
+ghost use Rattle.rv_run.specs.Phases.{PhasesUnder};
+ghost use Rattle.rv_run.specs.Ruling.{CallsUnder, settings_of};
+ghost use Rattle.rv_run.specs.Words.{behind_line};
+ghost use Rattle.skew_cli.specs.Running.{WritesFrom, bounded, our_judges};
+
+use rv_io::{Flush, Source, StdSink, StdSource};
+use rv_judge::{Judge, Uncounted};
 use rv_lending::let_go;
+use rv_reader::{Reader, Store};
 use rv_run::{Ran, Status, behind_line, read_words, run, serve};
 use rv_shared::OpenGate;
 use rv_store::Paged;
-use rv_value::NoMemory;
+use rv_value::{NoMemory, Text};
 use skew_judges::{AllRows, Bounded, FirstRows};
+use std::alloc::Global;
 use std::io;
 use std::io::BufWriter;
 use std::process::ExitCode;
@@ -28,38 +40,27 @@ fn main(rt: HostRuntime) -> ExitCode {
     ExitCode::from(code)
 }
 
-/// The run over the standard streams, under the judges of this program; with `--line` before the other words it serves line by
-/// line. `threads` is the leave to start threads.
+/// The run over the standard streams, as the words of the command line ask. `threads` is the leave to start threads.
 fn whole<R: Threads + Wait + Sync>(rt: &HostRuntime, threads: &R) -> Result<Status, NoMemory> {
     let alloc = rt.alloc();
     let words = match read_words(rt) {
         Ok(words) => words,
         Err(status) => return Ok(status),
     };
-    let mut judges: Vec<Box<dyn Judge>> = Vec::new(alloc);
-    judges.push(Box::new(alloc, Bounded::new(AllRows::new()))?)?;
-    judges.push(Box::new(alloc, AllRows::new())?)?;
-    judges.push(Box::new(alloc, FirstRows::new())?)?;
     let Ok(out) = BufWriter::new(alloc, io::writer(rt)) else {
         return Err(NoMemory);
     };
     let mut source = StdSource::new(rt.reader());
     let mut sink = StdSink::new(out);
     let store = Paged::new(alloc)?;
-    let Ran { status, core } = match behind_line(words.as_slice()) {
-        Some(rest) => serve(alloc, store, rest, &mut source, &mut sink, judges),
-        None => run(
-            threads,
-            alloc,
-            store,
-            words.as_slice(),
-            &mut source,
-            &mut sink,
-            judges,
-            &OpenGate,
-        ),
-    };
-    let_go(core);
+    let status = run_judged(
+        threads,
+        alloc,
+        store,
+        words.as_slice(),
+        &mut source,
+        &mut sink,
+    )?;
     Ok(match sink.finish() {
         Ok(()) => status,
         Err(_fault) => {
@@ -67,4 +68,54 @@ fn whole<R: Threads + Wait + Sync>(rt: &HostRuntime, threads: &R) -> Result<Stat
             Status::WriteFault
         }
     })
+}
+
+/// The run over a store under the judges of this program, as the words ask; with `--line` before the other words the service, line by
+/// line. Which of the judges rules first the words say.
+fn run_judged<
+    R: Threads + Wait + Sync,
+    P: Store + Reader<Ledger = Uncounted> + Send + Drop,
+    S: Source,
+    K: Flush,
+>(
+    threads: &R,
+    alloc: Global,
+    store: P,
+    words: &[Text],
+    source: &mut S,
+    sink: &mut K,
+) -> Result<Status, NoMemory>
+    requires tables { (P.shown store).tables ≡ 0 }
+    requires newest { (P.shown store).newest ≡ 0 }
+
+    // What a run writes that is done comes of calls each of which was made under the judge of its phase, of ours; with threads of
+    // phases each of which is a chain of events under its judge.
+    ensures ruled { IfOk result (λ status. (asked : Askings) → Ask words.now asked → asked.threads ≡ false → status ≡ Status.Done → WritesFrom asked.seed (S.left source.old) (Appends (K.written sink.old) (K.written sink.new)) (CallsUnder (λ s. P.shown s) (settings_of asked) store our_judges asked.judge)) }
+    ensures led { IfOk result (λ status. (asked : Askings) → Ask words.now asked → asked.threads ≡ true → status ≡ Status.Done → WritesFrom asked.seed (S.left source.old) (Appends (K.written sink.old) (K.written sink.new)) (PhasesUnder (λ s. P.shown s) (settings_of asked) store our_judges asked.judge)) }
+
+    // So does what a service writes that is done.
+    ensures served { IfOk result (λ status. (rest : List (List ℕ)) (asked : Askings) → behind_line words.now ≡ Some rest → Ask rest asked → status ≡ Status.Done → WritesFrom None (S.left source.old) (Appends (K.written sink.old) (K.written sink.new)) (CallsUnder (λ s. P.shown s) (settings_of asked) store our_judges asked.judge)) }
+
+    // The first of our judges keeps the rule under which a retrieval is bounded.
+    ensures bounded { IsBounded bounded.would }
+{
+    let mut judges: Vec<Box<dyn Judge>> = Vec::new(alloc);
+    judges.push(Box::new(alloc, Bounded::new(AllRows::new()))?)?;
+    judges.push(Box::new(alloc, AllRows::new())?)?;
+    judges.push(Box::new(alloc, FirstRows::new())?)?;
+    match behind_line(words) {
+        Some(rest) => Ok(end_of(serve(alloc, store, rest, source, sink, judges))),
+        None => Ok(end_of(run(
+            threads, alloc, store, words, source, sink, judges, &OpenGate,
+        ))),
+    }
+}
+
+/// The status of a run, whose core is let go.
+fn end_of<P: Store + Reader<Ledger = Uncounted> + Drop>(ran: Ran<P>) -> Status
+    ensures { result ≡ ran.status }
+{
+    let Ran { status, core } = ran;
+    let_go(core);
+    status
 }
