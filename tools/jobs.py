@@ -4,8 +4,9 @@
 usage: tools/jobs.py
 
 That is one for each processor that this process may run on (under its control group's quota too), but no more than the free
-memory (under the group's limit too) holds at 3.5 GB each and 2 GB more for one of them; and at least one. So much the checks of
-crates here were seen to take: that of try_stores 5.3 GB, that of the tests of try_runs 3.9, each other one less than 3.5.
+memory (under the group's limit too) holds at 3.5 GB each and 2 GB more for the largest; and at least one. So much the checks of
+crates here were seen to take: that of try_runs with its tests 5.1 GB, that of try_stores 4.7, that of rv_core 4.1, each other one 3.6
+or less.
 """
 from __future__ import annotations
 
@@ -16,7 +17,7 @@ from pathlib import Path
 
 from ending import end
 
-# What one check holds of memory at most, in bytes, and what the largest one holds beyond that.
+# What one check holds of memory, in bytes, and what the largest ones hold beyond that.
 OF_ONE = 3_500_000_000
 OF_LARGEST = 2_000_000_000
 GROUP = Path("/sys/fs/cgroup")

@@ -1,7 +1,7 @@
 /* bare.c: what a bare C program needs that keeps the same history and answers the calls of bench/sqlite's scripts with
-   the same bytes. One session's statements on tables of BIGINT columns; rows keep versions (from, to); indexes are B+
-   trees of (key, row) whose entries stay; the whole script is read first, texts in the history point into it, replies
-   are kept and written at the end. */
+   the same bytes. Statements of eight sessions, with a transaction each and one cursor at a time for all, on tables of
+   BIGINT columns; rows keep versions (from, to); indexes are B+ trees of (key, row) whose entries stay; the whole script
+   is read first, texts in the history point into it, replies are kept and written at the end. */
 #include <stddef.h>
 #include <stdint.h>
 #include <stdio.h>

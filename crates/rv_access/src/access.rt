@@ -18,6 +18,7 @@ ghost use Rattle.rv_access.specs.Given.{Answers, CountsPiece, GivesOn, IsOfUndro
 ghost use Rattle.rv_access.specs.Opened.{Begins, Competes, IsShort, Opened, OpenedBy, Races, Unites, is_background_only, is_each, is_race, is_table, races, restricted, unites};
 ghost use Rattle.rv_access.specs.Stepping.{GivesStep, MayReadIts, OnlyTakes, SameCourse, SettledTake, StepsAs};
 
+use crate::over::Over;
 use crate::racing::RacedQuery;
 use crate::uniting::UnitedQuery;
 use rv_choice::{Background, Candidate, Choice, Query, candidates, choose, members};
@@ -117,10 +118,11 @@ fn will_race(race: bool, choice: Choice, candidates: &[Candidate]) -> bool
 }
 
 impl Access {
-    /// Opens a retrieval with what was chosen.
+    /// Opens a retrieval with what was chosen, in the place of one that is over, where one is given.
     fn open_competing<R: Reader>(
         alloc: Global,
         reader: &R,
+        over: Option<Box<Retrieval>>,
         query: Query,
         candidates: &[Candidate],
         choice: Choice,
@@ -141,7 +143,7 @@ impl Access {
         ensures unread { has_short query (R.shown reader.now) ≡ false → steps.new ≡ steps.old }
     {
         let retrieval = Retrieval::open_chosen(
-            alloc, reader, query, candidates, choice, cursor, opening, steps,
+            alloc, reader, over, query, candidates, choice, cursor, opening, steps,
         )?;
         Ok(Access::Competing(retrieval))
     }
@@ -203,10 +205,11 @@ impl Access {
     }
 
     /// Opens what was chosen where indexes do not race: a union where the table would be read and a group of the restriction
-    /// has members, else a retrieval.
+    /// has members, else a retrieval, in the place of one that is over, where one is given.
     fn open_chosen<R: Reader>(
         alloc: Global,
         reader: &R,
+        over: Option<Box<Retrieval>>,
         query: Query,
         candidates: &[Candidate],
         choice: Choice,
@@ -228,22 +231,26 @@ impl Access {
     {
         if !is_table(choice.strategy) {
             return Access::open_competing(
-                alloc, reader, query, candidates, choice, cursor, opening, steps,
+                alloc, reader, over, query, candidates, choice, cursor, opening, steps,
             );
         }
         let members = match members(alloc, reader, &query) {
             Ok(members) => members,
             Err(fault) => {
+                drop(over);
                 drop(query);
                 return Err(fault);
             }
         };
         match members {
-            Some(members) => Access::open_united(
-                alloc, reader, query, candidates, choice, members, cursor, opening, steps,
-            ),
+            Some(members) => {
+                drop(over);
+                Access::open_united(
+                    alloc, reader, query, candidates, choice, members, cursor, opening, steps,
+                )
+            }
             None => Access::open_competing(
-                alloc, reader, query, candidates, choice, cursor, opening, steps,
+                alloc, reader, over, query, candidates, choice, cursor, opening, steps,
             ),
         }
     }
@@ -253,10 +260,11 @@ impl Access {
     /// Where a race is asked and two or more indexes can race they do. Where the table would be read and a group of the
     /// restriction has two branches or more, of which each bounds an index, their keys are put together. Else it is a
     /// retrieval: where a restricted index has an exact estimate of at most 20 its leaves are read at once. `cursor` and
-    /// `opening` go into the ids of its pieces.
+    /// `opening` go into the ids of its pieces. The memory of an access that is over is used anew.
     pub fn open<R: Reader>(
         alloc: Global,
         reader: &R,
+        over: &mut Over,
         query: Query,
         race: bool,
         cursor: u64,
@@ -296,6 +304,7 @@ impl Access {
             Access::open_chosen(
                 alloc,
                 reader,
+                over.take(),
                 query,
                 candidates.as_slice(),
                 choice,

@@ -3,9 +3,11 @@
 #![tactic(auto)]
 
 mod access;
+mod over;
 mod racing;
 mod uniting;
 
 pub use access::{Access, races};
+pub use over::Over;
 pub use racing::RacedQuery;
 pub use uniting::UnitedQuery;

@@ -36,6 +36,7 @@ pub struct RacedQuery {
     pub race: Race,
 }
 
+/// What a scan came to, as an access answers it. Races and unions both use it.
 pub(crate) fn answer(scanned: Scanned) -> Fg
     ensures { result ≡ fg_of scanned }
 {
@@ -100,7 +101,8 @@ impl RacedQuery {
         Ok(RacedQuery { query, race })
     }
 
-    /// A step of the race.
+    /// A step of the race, as any access makes it. Nothing is given while the two indexes race; then the final stage gives
+    /// the rows.
     pub fn fg_step<R: Reader>(
         &mut self,
         reader: &R,

@@ -81,7 +81,8 @@ impl UnitedQuery {
         Ok(UnitedQuery { query, union })
     }
 
-    /// A step of the union.
+    /// A step of the union, as any access makes it. Nothing is given while members are scanned; then the final stage gives
+    /// the rows.
     pub fn fg_step<R: Reader>(
         &mut self,
         reader: &R,

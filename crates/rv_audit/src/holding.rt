@@ -34,7 +34,7 @@ fn reply_is_held(reply: &Reply)
         Reply::Row(values) => values_are_held(values.as_slice()),
         Reply::Stepped(number) => number_is_held(*number),
         Reply::Trace(shown) => trace_is_held(shown.get()),
-        Reply::Refused(refusal) => refusal_is_held(refusal),
+        Reply::Refused(refusal) => refusal_is_held(refusal.get()),
         Reply::Created | Reply::RolledBack | Reply::Opened | Reply::End | Reply::Closed => {}
     }
 }

@@ -60,6 +60,7 @@ impl<X: Placed> Blocks<X> {
         }
     }
 
+    /// How many items there are. The count is kept, so no block is looked at.
     pub fn len(&self) -> usize
         ensures same { result ≡ length self.now }
         ensures rise { Rising X.before self.now }
@@ -67,6 +68,7 @@ impl<X: Placed> Blocks<X> {
         self.count
     }
 
+    /// Whether there is no item; Rust's habit asks for it beside `len`.
     pub fn is_empty(&self) -> bool
         ensures { result ≡ (length self.now == 0) }
     {

@@ -26,3 +26,4 @@ pub mod UnionCosts
 pub mod RacedPlans
 pub mod UnitedPlans
 pub mod CursorLaws
+pub mod CoreCalls

@@ -75,8 +75,8 @@ pub record Does (call : Call) (shown : Shown) (old new : Shape) : Type 0 where
   pub bounded : IsBounded would
   pub does : DoesCall call would shown old new
 
--- such calls one after another, the last one first in the list. A call that leaves all as it was, as a give for which no
--- memory is found, is none.
+-- such calls one after another, the last one first in the list. A call that leaves all as it was, as a give for which
+-- no memory is found, is none.
 abbrev pub DoesAll : List Call → Shown → Shape → Shape → Type 0
 DoesAll [] shown old new = new ≡ old
 DoesAll (call ∷ calls) shown old new = (mid : Shape) × DoesAll calls shown old mid × Does call shown mid new

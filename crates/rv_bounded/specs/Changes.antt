@@ -19,7 +19,8 @@ use Rattle.rv_core.specs.Obeying.{HasSearched, Plans, Touches, Under}
 use Rattle.skew_judges.specs.Guard.{IsBounded}
 
 -- A SEARCH KEEPS TO ITS BOUND where it is background-only and no index is short: twice the pages of the table, as the
--- transaction sees it, two leaves for each planned scan, 48 records, and one for each row that was found, which is fetched
+-- transaction sees it, two leaves for each planned scan, 48 records, and one for each row that was found, which is
+-- fetched
 abbrev pub SearchKeeps : {would : ℕ → Facts → Ruling} {state after : ℕ} (shown : Shown) (own : Transaction) (table : ℕ)
     (only : List (List Atom)) (indexes : List (ℕ × List ℕ))
     → HasSearched would state after shown own table only indexes → Type 0
@@ -40,4 +41,5 @@ ChangesAreBounded =
     (writes : writing db.transactions.active session ≡ Ok own)
     (narrows : any_narrows only (indexes_from table 0 db.schema.indexes) ≡ true)
     → IsBounded u.would → length (indexes_from table 0 db.schema.indexes) ≤ 8
-    → SearchKeeps u.store own table only (indexes_from table 0 db.schema.indexes) (touches.1 count told own writes narrows)
+    → SearchKeeps u.store own table only (indexes_from table 0 db.schema.indexes)
+    (touches.1 count told own writes narrows)

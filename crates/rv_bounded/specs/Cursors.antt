@@ -84,9 +84,9 @@ OpensBegin =
     → PlanBegins (seen_by shown opens.cursor) opens.cursor.plan opens.cursor.plan.stack.at.here
 
 -- LAW: a cursor over one FROM item that a background-only retrieval reads, in which no index is short, never reads more
--- beside what its opening read than twice the table's pages, two leaves for each planned scan and 48 records, but for one
--- for each call of the retrieval for which no memory was found; whatever calls of the core come, each under a judge of its
--- own
+-- beside what its opening read than twice the table's pages, two leaves for each planned scan and 48 records, but for
+-- one for each call of the retrieval for which no memory was found; whatever calls of the core come, each under a judge
+-- of its own
 abbrev pub CursorsAreBounded : Type 0
 CursorsAreBounded =
     (calls : List CursorCall) (lost : ℕ) (opened now : Held) (v : Box Shape Global)

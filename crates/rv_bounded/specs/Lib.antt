@@ -6,5 +6,6 @@ pub mod RaceReads
 pub mod UnionReads
 pub mod Plans
 pub mod Cursors
+pub mod CoreCalls
 pub mod OtherPlans
 pub mod Changes

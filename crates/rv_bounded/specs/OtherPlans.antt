@@ -22,12 +22,13 @@ abbrev pub united_pages : Shown → UnitedQuery → ℕ
 united_pages shown u = shown.pages u.query.table u.query.snap
 
 -- LAW: a plan over one FROM item whose indexes race never reads more than twice the table's pages, two leaves for each
--- planned scan and 48 records, but for one for each call for which no memory was found; whatever calls come, in whatever
--- order, under whatever judges that are bounded
+-- planned scan and 48 records, but for one for each call for which no memory was found; whatever calls come, in
+-- whatever order, under whatever judges that are bounded
 abbrev pub RacedPlansAreBounded : Type 0
 RacedPlansAreBounded =
     (shown : Shown) (calls : List PlanCall) (lost : ℕ) (opened now : Planned) (r : Box RacedQuery Global)
-    → PlanBegins shown opened (Racing r) → raced_pages shown r.value < 2 ^ 63 → PlanSpendsAll calls shown lost opened now
+    → PlanBegins shown opened (Racing r) → raced_pages shown r.value < 2 ^ 63
+    → PlanSpendsAll calls shown lost opened now
     → reads_told (plan_trace now) ≤ 2 * raced_pages shown r.value + 2 * length r.value.race.plans + 48 + lost
 
 -- LAW: and one whose members are put together, of which there are at most 2 ^ 32, no more than twice the table's pages

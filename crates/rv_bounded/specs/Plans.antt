@@ -1,6 +1,7 @@
 -- HOW MUCH A PLAN OVER ONE FROM ITEM READS UNDER JUDGES THAT ARE BOUNDED: the calls that a cursor makes of its plan,
 -- one after another, each under a judge of its own, over what the cursor sees.
-use Rattle.std.specs.Prelude.{◌≡◌, ℕ, ◌+◌, ◌*◌, ◌/◌, ◌^◌, ◌<◌, ◌≤◌, false, not, ◌&&◌, List, [], ◌∷◌, length, Some, None, is_some, if◌then◌else◌, Box}
+use Rattle.std.specs.Prelude.{◌≡◌, ℕ, ◌+◌, ◌*◌, ◌/◌, ◌^◌, ◌<◌, ◌≤◌, false, not, ◌&&◌, List, [], ◌∷◌, length}
+use Rattle.std.specs.Prelude.{Some, None, is_some, if◌then◌else◌, Box}
 use Rattle.std.specs.declared.alloc.Global.{Global}
 use Rattle.std.proofs.Common.{inl, inr}
 use Rattle.rv_judge.specs.declared.counting.Counts.{Counts}

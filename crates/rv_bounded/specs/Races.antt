@@ -75,8 +75,8 @@ abbrev pub RaceDoesAll : List Call → Raced → Raced → Type 0
 RaceDoesAll [] old new = new ≡ old
 RaceDoesAll (call ∷ calls) old new = (mid : Raced) × RaceDoesAll calls old mid × RaceDoes call mid new
 
--- LAW: whatever calls come, in whatever order, under whatever judges that are bounded, a race never reads more leaves than
--- the table has pages and two for each planned scan, but for one for each call for which no memory was found
+-- LAW: whatever calls come, in whatever order, under whatever judges that are bounded, a race never reads more leaves
+-- than the table has pages and two for each planned scan, but for one for each call for which no memory was found
 abbrev pub RacesReadFewLeaves : Type 0
 RacesReadFewLeaves =
     (table snap : ℕ) (only : List (List Atom)) (scans : List ScanPlan) (cursor opening pages : ℕ) (calls : List Call)

@@ -3,6 +3,7 @@
 
 ghost use Rattle.rv_bounded.specs.Bounds.{FastReadsAreBounded, LeavesAreFew, ReadsAreBounded, SearchesAreBounded};
 ghost use Rattle.rv_bounded.specs.Changes.{ChangesAreBounded};
+ghost use Rattle.rv_bounded.specs.CoreCalls.{CallIsSpent, GiveIsGiven, MovesLoseFew, StillIsSpent, TakeIsSpent};
 ghost use Rattle.rv_bounded.specs.Cursors.{CursorsAreBounded, FastCursorsAreBounded, OpensBegin};
 ghost use Rattle.rv_bounded.specs.OtherPlans.{RacedCursorsAreBounded, RacedPlansAreBounded, UnitedCursorsAreBounded, UnitedPlansAreBounded};
 ghost use Rattle.rv_bounded.specs.Plans.{FastPlansAreBounded, PlansAreBounded};
@@ -92,4 +93,14 @@ pub fn united_plans_are_bounded()
 /// A law: so does the search of an UPDATE or DELETE of a core, with a fetch of each row that it found.
 pub fn changes_are_bounded()
     ensures { ChangesAreBounded }
+{}
+
+/// A law: what the calls of a core say of a cursor is the calls that the laws on cursors ask, gives too; each step and
+/// each take loses a read at most.
+pub fn calls_are_spent()
+    ensures moves { CallIsSpent }
+    ensures still { StillIsSpent }
+    ensures takes { TakeIsSpent }
+    ensures gives { GiveIsGiven }
+    ensures few { MovesLoseFew }
 {}

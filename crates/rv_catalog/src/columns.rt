@@ -50,6 +50,7 @@ impl Fit {
     }
 }
 
+/// Whether two names are the same, byte by byte: the lexer has put them in capitals.
 pub fn same(a: &Text, b: &Text) -> bool
     ensures { result ≡ bytes_eq a.now b.now }
 {

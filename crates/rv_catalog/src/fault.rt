@@ -7,6 +7,7 @@ use rv_lang::Refusal;
 use rv_value::{Duplicate, Text};
 use std::alloc::Global;
 
+/// The refusal of a name that nothing has. It keeps a copy of the name, for which memory may be wanting.
 pub fn unknown(alloc: Global, name: &Text) -> BindFault
     ensures { Says result (Why.Unknown name.now) }
 {
@@ -16,6 +17,7 @@ pub fn unknown(alloc: Global, name: &Text) -> BindFault
     }
 }
 
+/// The refusal of a name that is taken. It keeps a copy of the name, for which memory may be wanting.
 pub fn exists(alloc: Global, name: &Text) -> BindFault
     ensures { Says result (Why.Exists name.now) }
 {
@@ -25,6 +27,8 @@ pub fn exists(alloc: Global, name: &Text) -> BindFault
     }
 }
 
+/// The refusal where a value does not fit the column of a name, or a row has more or fewer values than its table has
+/// columns. It keeps a copy of the name, for which memory may be wanting.
 pub fn wrong_kind(alloc: Global, name: &str) -> BindFault
     ensures { Says result (Why.Kind name.now) }
 {

@@ -10,4 +10,5 @@ mod names;
 mod resolve;
 
 pub use def::{BindFault, Goal, IndexDef, Resolved, Select, TableDef};
+pub use limits::long_name;
 pub use names::Catalog;

@@ -62,7 +62,8 @@ fn passed(which: Which, number: u64) -> BindFault
 
 // Names.
 
-fn long(name: &Text) -> bool
+/// Whether a name passes the limit of names.
+pub fn long_name(name: &Text) -> bool
     ensures { result ≡ is_long name.now }
 {
     name.as_str().len() > 31
@@ -73,14 +74,14 @@ fn long_option(name: &Option<Text>) -> bool
 {
     match name {
         None => false,
-        Some(name) => long(name),
+        Some(name) => long_name(name),
     }
 }
 
 fn long_ref(raw: &RawCol) -> bool
     ensures { result ≡ is_long_ref raw.now }
 {
-    long_option(&raw.table) || long(&raw.column)
+    long_option(&raw.table) || long_name(&raw.column)
 }
 
 fn long_operand(operand: &RawOperand) -> bool
@@ -123,19 +124,19 @@ fn any_long_atom(only: &[Items<RawAtom>]) -> bool
 fn any_long(names: &[Text]) -> bool
     ensures { result ≡ list_any is_long names.now }
 {
-    names.iter().any(long)
+    names.iter().any(long_name)
 }
 
 fn any_long_column(columns: &[(Text, RawKind)]) -> bool
     ensures { result ≡ list_any (λ c. is_long c.0) columns.now }
 {
-    columns.iter().any(|column| long(&column.0))
+    columns.iter().any(|column| long_name(&column.0))
 }
 
 fn any_long_set(sets: &[(Text, Value)]) -> bool
     ensures { result ≡ list_any (λ s. is_long s.0) sets.now }
 {
-    sets.iter().any(|set| long(&set.0))
+    sets.iter().any(|set| long_name(&set.0))
 }
 
 fn any_long_item(items: &[(Text, Option<Text>)]) -> bool
@@ -143,7 +144,7 @@ fn any_long_item(items: &[(Text, Option<Text>)]) -> bool
 {
     items
         .iter()
-        .any(|item| long(&item.0) || long_option(&item.1))
+        .any(|item| long_name(&item.0) || long_option(&item.1))
 }
 
 fn any_long_ref(refs: &[RawCol]) -> bool
@@ -166,19 +167,19 @@ fn any_long_name(statement: &Statement) -> bool
 {
     match statement {
         Statement::CreateTable { name, columns } => {
-            long(name) || any_long_column(columns.as_slice())
+            long_name(name) || any_long_column(columns.as_slice())
         }
         Statement::CreateIndex {
             unique: _,
             name,
             table,
             columns,
-        } => long(name) || long(table) || any_long(columns.as_slice()),
-        Statement::Insert { table, values: _ } => long(table),
+        } => long_name(name) || long_name(table) || any_long(columns.as_slice()),
+        Statement::Insert { table, values: _ } => long_name(table),
         Statement::Update { table, sets, only } => {
-            long(table) || any_long_set(sets.as_slice()) || any_long_atom(only.as_slice())
+            long_name(table) || any_long_set(sets.as_slice()) || any_long_atom(only.as_slice())
         }
-        Statement::Delete { table, only } => long(table) || any_long_atom(only.as_slice()),
+        Statement::Delete { table, only } => long_name(table) || any_long_atom(only.as_slice()),
         Statement::Open {
             cursor,
             returned,
@@ -187,16 +188,16 @@ fn any_long_name(statement: &Statement) -> bool
             order,
             goal: _,
         } => {
-            long(cursor)
+            long_name(cursor)
                 || any_long_returned(returned)
                 || any_long_item(items.as_slice())
                 || any_long_atom(only.as_slice())
                 || any_long_ref(order.as_slice())
         }
-        Statement::Fetch { cursor } => long(cursor),
-        Statement::Show { cursor } => long(cursor),
-        Statement::Close { cursor } => long(cursor),
-        Statement::Step { cursor, n: _ } => long(cursor),
+        Statement::Fetch { cursor } => long_name(cursor),
+        Statement::Show { cursor } => long_name(cursor),
+        Statement::Close { cursor } => long_name(cursor),
+        Statement::Step { cursor, n: _ } => long_name(cursor),
         Statement::Begin { .. } | Statement::Commit | Statement::Rollback => false,
     }
 }

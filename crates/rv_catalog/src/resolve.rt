@@ -137,6 +137,7 @@ fn number_of(alloc: Global, catalog: &Catalog, table: &Text) -> Result<u32, Bind
 trait Named {
     ghost name_of: { Self → List ℕ };
 
+    /// The name by which it is told apart from the others of its list.
     fn name(&self) -> &Text
         ensures { result.now ≡ name_of self.now };
 }

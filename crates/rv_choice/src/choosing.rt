@@ -297,6 +297,7 @@ pub fn choose(candidates: &[Candidate], order: &[u32], goal: Goal2) -> Choice
     }
 }
 
+/// The scan of a candidate's index: its range, and the part of the restriction that an entry alone decides.
 pub(crate) fn plan(
     alloc: Global,
     only: &Restriction,

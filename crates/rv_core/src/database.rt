@@ -82,7 +82,7 @@ impl<S: Store + Reader<Ledger = Uncounted> + Drop> Database<S> {
         &self.catalog
     }
 
-    /// The transactions.
+    /// The active transactions, and the numbers that are given next.
     pub fn txns(&self) -> &Txns
         ensures { result.now ≡ self.now.stand.db.transactions }
     {
@@ -111,7 +111,7 @@ impl<S: Store + Reader<Ledger = Uncounted> + Drop> Database<S> {
         self.cursors.len() as u32
     }
 
-    /// CREATE TABLE.
+    /// CREATE TABLE: refused while a transaction is active. Catalog and store get the table together, or neither.
     #[tactic(auto, using(crate::proofs::Keeping::sees_same))]
     pub fn create(&mut self, def: TableDef) -> Result<(Reply, Reply), NoMemory>
         requires { IsNewTable self.old.stand.db.schema def }
@@ -138,7 +138,8 @@ impl<S: Store + Reader<Ledger = Uncounted> + Drop> Database<S> {
         Ok((Reply::Created, Reply::Created))
     }
 
-    /// CREATE INDEX.
+    /// CREATE INDEX: refused while a transaction is active. A unique one looks for equal rows first; catalog and store get
+    /// the index together, or neither.
     #[tactic(auto, using(crate::proofs::Keeping::sees_same))]
     pub fn create_index(&mut self, def: IndexDef) -> Result<(Reply, Reply), NoMemory>
         requires new { IsNewIndex self.old.stand.db.schema def }
@@ -179,7 +180,7 @@ impl<S: Store + Reader<Ledger = Uncounted> + Drop> Database<S> {
         Ok((Reply::Created, Reply::Created))
     }
 
-    /// BEGIN.
+    /// BEGIN: the transaction's base is the newest commit, and so it stays.
     #[tactic(auto, using(crate::proofs::Keeping::sees_same))]
     pub fn begin(&mut self, session: u8, read_only: bool) -> Result<(Reply, Reply), NoMemory>
         requires { HasRoom self.old.stand.db }
@@ -198,7 +199,8 @@ impl<S: Store + Reader<Ledger = Uncounted> + Drop> Database<S> {
         Ok((Reply::Began(number), Reply::Began(number)))
     }
 
-    /// INSERT.
+    /// INSERT: the row's number is taken at once and never given again; the row itself goes to the transaction's changes,
+    /// and its view.
     #[tactic(auto, using(crate::proofs::Keeping::sees_same))]
     pub fn insert(
         &mut self,
@@ -270,7 +272,7 @@ impl<S: Store + Reader<Ledger = Uncounted> + Drop> Database<S> {
         Ok((Reply::Touched(count), Reply::Touched(count)))
     }
 
-    /// COMMIT.
+    /// COMMIT: what may fail comes first, so that with want of memory the transaction goes on as it was. Its cursors close.
     #[tactic(auto, using(crate::proofs::Keeping::sees_same))]
     pub fn commit(&mut self, session: u8) -> Result<(Reply, Reply), NoMemory>
         requires { HasRoom self.old.stand.db }
@@ -295,7 +297,7 @@ impl<S: Store + Reader<Ledger = Uncounted> + Drop> Database<S> {
         Ok((Reply::Committed(number), Reply::Committed(number)))
     }
 
-    /// ROLLBACK.
+    /// ROLLBACK: nothing was written into the store, so only changes, view and cursors go.
     #[tactic(auto, using(crate::proofs::Keeping::sees_same))]
     pub fn rollback(&mut self, session: u8) -> Result<(Reply, Reply), NoMemory>
         ensures sees { SeesSame (S.shown self.old.store) (S.shown self.new.store) self.new.opens }
@@ -477,7 +479,7 @@ impl<S: Store + Reader<Ledger = Uncounted> + Drop> Database<S> {
         Ok((Reply::Stepped(done), Reply::Stepped(done)))
     }
 
-    /// SHOW.
+    /// SHOW: what the cursor's plan did so far, with indexes by their names. It changes nothing.
     pub fn show(&self, session: u8, name: Text) -> Result<(Reply, Reply), NoMemory>
         ensures ok { IfOk result (λ replies. Shows self.now.stand session name replies) }
         ensures told { IfOk result (λ replies. TellsPlan (open_named self.now.opens session name) self.now.stand.db.schema.indexes self.now.opens replies.0) }
@@ -534,7 +536,7 @@ impl<S: Store + Reader<Ledger = Uncounted> + Drop> Database<S> {
         give_at(&mut self.cursors, place, sieved, judge, steps)
     }
 
-    /// CLOSE.
+    /// CLOSE: the cursor goes, and with it what its plan kept.
     #[tactic(auto, using(crate::proofs::Opens::removed_seen, crate::proofs::Keeping::sees_same))]
     pub fn close(&mut self, session: u8, name: Text) -> Result<(Reply, Reply), NoMemory>
         ensures sees { SeesSame (S.shown self.old.store) (S.shown self.new.store) self.new.opens }

@@ -17,7 +17,8 @@ use std::alloc::Global;
 pub fn refused(alloc: Global, refusal: Refusal) -> Result<(Reply, Reply), NoMemory>
     ensures { IfOk result (λ replies. (replies.0 ≡ Refused refusal) × (replies.1 ≡ Refused refusal)) }
 {
-    twice(alloc, Reply::Refused(refusal))
+    let reply = Reply::refused(alloc, refusal)?;
+    twice(alloc, reply)
 }
 
 /// A call that is answered in one turn.
@@ -32,7 +33,7 @@ pub fn answered(
     }
 }
 
-/// A limit of the state.
+/// The refusal of what would pass a limit of the state; the number is that limit.
 pub fn limit(which: Which, number: u64) -> Refusal
     ensures { result ≡ LimitPassed which number }
 {

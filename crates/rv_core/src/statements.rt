@@ -18,7 +18,7 @@ ghost use Rattle.rv_lang.specs.declared.reply.Reply.TheVariants.{Refused};
 use crate::database::Database;
 use crate::replies::{answered, refused};
 use crate::settings::Settings;
-use rv_catalog::{BindFault, Catalog, Resolved};
+use rv_catalog::{BindFault, Catalog, Resolved, long_name};
 use rv_judge::{Judge, Uncounted};
 use rv_lang::{Refusal, Reply, Statement};
 use rv_parse::Readings;
@@ -114,7 +114,7 @@ fn fetched(alloc: Global, statement: &Option<Statement>) -> Result<Option<Text>,
 fn short_name(alloc: Global, name: &Text) -> Result<Option<Text>, NoMemory>
     ensures { IfOk result (λ short. IfSome short (λ short. (short ≡ name.now) × (is_long name.now ≡ false))) }
 {
-    if name.as_str().len() > 31 {
+    if long_name(name) {
         return Ok(None);
     }
     Ok(Some(name.copy(alloc)?))

@@ -45,6 +45,7 @@ impl Delivered {
         })
     }
 
+    /// How many rows were delivered. What always holds is told with it: at most 1,024, ascending.
     pub fn len(&self) -> u32
         ensures count { result ≡ length self.now }
         ensures room { length self.now ≤ 1024 }
@@ -53,6 +54,7 @@ impl Delivered {
         self.rows.len() as u32
     }
 
+    /// Whether nothing was delivered yet; Rust's habit asks for it beside `len`.
     pub fn is_empty(&self) -> bool
         ensures { result ≡ (length self.now == 0) }
     {

@@ -8,7 +8,7 @@ ghost use Rattle.rv_node.specs.Trees.{differs, placed, up_to};
 ghost use Rattle.rv_index.specs.Steps.{behind_child, is_ahead, passed_first};
 
 use rv_node::Node;
-use rv_reader::{count_not_after, count_passed, is_before};
+use rv_reader::{count_front, count_passed, is_before};
 use rv_value::{IndexEntry, NoMemory, Range, cmp_entry, copy_slice};
 use std::alloc::Global;
 use std::cmp::Ordering;
@@ -51,7 +51,7 @@ fn wanted_part<'a>(
     ensures { result.now ≡ filter (is_wanted range.now (option_copied from.entry)) leaf.now }
 {
     let (_, rest) = leaf.split_at(count_ahead(leaf, from, range));
-    let (part, _) = rest.split_at(count_not_after(rest, range));
+    let (part, _) = rest.split_at(count_front(rest, range));
     part
 }
 

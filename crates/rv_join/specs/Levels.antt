@@ -1,5 +1,6 @@
 -- The combinations that nested loops have still to give, as a bag of offers.
-use Rattle.std.specs.Prelude.{◌≡◌, ℕ, ◌+◌, ◌<◌, ◌-◌, ◌&&◌, Bool, true, List, [], ◌∷◌, ◌++◌, length, filter, map, drop, nat_eq, replicate, Option, Some, None}
+use Rattle.std.specs.Prelude.{◌≡◌, ℕ, ◌+◌, ◌<◌, ◌-◌, ◌&&◌, Bool, true, List, [], ◌∷◌, ◌++◌, length, filter, map, drop}
+use Rattle.std.specs.Prelude.{nat_eq, replicate, Option, Some, None}
 use Rattle.std.specs.List.{flat_map}
 use Rattle.rv_value.specs.declared.value.Value.{Value}
 use Rattle.rv_value.specs.declared.value.Value.TheVariants.{Null}

@@ -96,7 +96,7 @@ impl Gathered {
         }
     }
 
-    /// Sorts all that is gathered.
+    /// Sorts all that is gathered. With want of memory all is still there, in some order.
     pub fn sort(&mut self) -> Result<(), NoMemory>
         ensures same { IsPermutation self.old.offers self.new.offers }
         ensures sorted { OnOk result (IsSortedBy before self.new.offers) }

@@ -15,7 +15,7 @@ ghost use Rattle.rv_model.specs.Offering.{picked_over};
 ghost use Rattle.rv_join.specs.Pieces.{is_waiting};
 
 use crate::places::{Asked, open_item};
-use rv_access::Access;
+use rv_access::{Access, Over};
 use rv_judge::{Control, Judge, Steps};
 use rv_model::Offer;
 use rv_reader::Reader;
@@ -177,8 +177,30 @@ fn pick_row(
     if reads_whole(columns, outer.len(), row) {
         return row.copy(alloc);
     }
-    let values = pick(alloc, columns, outer, row)?;
-    Values::of(alloc, values)
+    match columns {
+        [first, second] => pick_two(alloc, *first, *second, outer, row),
+        _ => Values::of(alloc, pick(alloc, columns, outer, row)?),
+    }
+}
+
+/// The values that two references read, as those of a row.
+fn pick_two(
+    alloc: Global,
+    first: ColRef,
+    second: ColRef,
+    outer: &[Values],
+    row: &Values,
+) -> Result<Values, NoMemory>
+    ensures { IfOk result (λ values. values ≡ picked_over (first ∷ second ∷ []) (outer.now ++ row.now ∷ [])) }
+{
+    let left = value_at(alloc, outer, row, first)?;
+    match value_at(alloc, outer, row, second) {
+        Ok(right) => Values::two(alloc, left, right),
+        Err(fault) => {
+            drop(left);
+            Err(fault)
+        }
+    }
 }
 
 impl Level {
@@ -252,13 +274,14 @@ impl Level {
         Ok(rows)
     }
 
-    /// Opens the level of the next FROM item over a row that is held.
+    /// Opens the level of the next FROM item over a row that is held, in the memory of an access that is over.
     #[tactic(auto, using(crate::proofs::Binding::wide_more, crate::proofs::Opening::descends))]
     pub fn inner<R: Reader>(
         &self,
         alloc: Global,
         reader: &R,
         asked: &Asked,
+        over: &mut Over,
         row: &Values,
         opening: u64,
         steps: &mut Steps<R::Ledger>,
@@ -272,7 +295,7 @@ impl Level {
         ensures only { OnlyLeaves steps.old steps.new }
     {
         let outer = self.wide_rows(alloc, asked, row)?;
-        let here = open_item(alloc, reader, asked, outer.as_slice(), opening, steps)?;
+        let here = open_item(alloc, reader, asked, over, outer.as_slice(), opening, steps)?;
         Ok(Level {
             outer,
             row: None,

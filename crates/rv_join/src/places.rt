@@ -11,7 +11,7 @@ ghost use Rattle.rv_access.specs.Opened.{Opened, life_of};
 ghost use Rattle.rv_judge.specs.Tracing.{CountsAll};
 ghost use Rattle.rv_join.specs.Asking.{Adds, AreWide, Asks, CanPlan, CanRun, IsAsked, IsItem, OpensItem, atom_names, by_index, col_at, columns_of, goal_of, group_names, indexes_from, is_first, item_at, only_names, operand_names, order_at, same_column, select_uses, table_at};
 
-use rv_access::Access;
+use rv_access::{Access, Over};
 use rv_catalog::{Goal, IndexDef, Select};
 use rv_choice::{Goal2, Query, ordered};
 use rv_judge::Steps;
@@ -372,12 +372,14 @@ fn query(alloc: Global, asked: &Asked, outer: &[Values]) -> Result<Query, NoMemo
     })
 }
 
-/// Opens the access of an item over the rows of the items before it, as the cursor's one of this number.
+/// Opens the access of an item over the rows of the items before it, as the cursor's one of this number. The memory of an
+/// access that is over is used anew.
 #[tactic(auto, using(crate::proofs::Binding::can_be_bound, crate::proofs::Binding::can_ask))]
 pub fn open_item<R: Reader>(
     alloc: Global,
     reader: &R,
     asked: &Asked,
+    over: &mut Over,
     outer: &[Values],
     opening: u64,
     steps: &mut Steps<R::Ledger>,
@@ -396,6 +398,7 @@ pub fn open_item<R: Reader>(
     Access::open(
         alloc,
         reader,
+        over,
         query,
         asked.race,
         asked.cursor,

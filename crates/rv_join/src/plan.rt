@@ -144,9 +144,7 @@ impl Plan {
                 return Err(fault);
             }
         };
-        let trace = stack.first_trace();
-        let reads = reads_of(&trace);
-        drop(trace);
+        let reads = reads_of(stack.first_trace());
         let gathered = Gathered::new(alloc, &asked);
         Ok(Plan {
             alloc,
@@ -173,7 +171,7 @@ impl Plan {
         ensures allowed { (shown : Shown) → PlanFits shown self.now → Allowed result (numbers_of (item_at self.now.asked 0).indexes) }
         ensures alone { (shown : Shown) → PlanFits shown self.now → length self.now.asked.items ≡ 1 → result ≡ trace_of self.now.stack.at.here }
     {
-        let mut trace = self.stack.first_trace();
+        let mut trace = self.stack.first_trace().copy();
         trace.pages = self.reads.pages;
         trace.leaves = self.reads.leaves;
         trace.fetches = self.reads.records;
@@ -197,6 +195,7 @@ impl Plan {
 
 /// Changes of fields.
 impl Plan {
+    /// Whether offers come as they are found, are being gathered, or are given in their order.
     pub(crate) fn stage(&self) -> Stage
         ensures { result ≡ self.now.stage }
     {
@@ -339,6 +338,7 @@ impl Plan {
         self.stack.take(at, reader, steps)
     }
 
+    /// Gives a sieved piece to the retrieval of one level of the stack, the innermost where `at` is above all others.
     pub(crate) fn give_at<L: Drop>(
         &mut self,
         at: usize,

@@ -26,6 +26,7 @@ ghost use Rattle.rv_judge.specs.Tracing.{CountsAll, CountsRise, SameCounts};
 
 use crate::level::{Caught, Level};
 use crate::places::{Asked, open_item};
+use rv_access::Over;
 use rv_jscan::{Given, Sieved, Taken};
 use rv_judge::{Judge, Steps, Trace};
 use rv_model::Offer;
@@ -46,12 +47,14 @@ pub enum Moved {
     Moving,
 }
 
-/// The open levels, those above the innermost one first, and the count of retrievals opened.
+/// The open levels, those above the innermost one first, and the count of retrievals opened. The memory of the level that
+/// ended last is kept, so that the next inner one is opened in it; contracts do not see it.
 #[derive(Drop)]
 pub struct Stack {
     above: Vec<Level>,
     at: Level,
     openings: u64,
+    over: Over,
 }
 
 impl Model for Stack {
@@ -93,7 +96,7 @@ pub fn open<R: Reader>(
     ensures only { OnlyLeaves steps.old steps.new }
     ensures row { IfOk result (λ s. s.at.row ≡ None) }
 {
-    let here = open_item(alloc, reader, asked, &[], 1, steps)?;
+    let here = open_item(alloc, reader, asked, &mut Over::new(), &[], 1, steps)?;
     Ok(Stack {
         above: Vec::new(alloc),
         at: Level {
@@ -102,6 +105,7 @@ pub fn open<R: Reader>(
             here,
         },
         openings: 1,
+        over: Over::new(),
     })
 }
 
@@ -115,7 +119,12 @@ impl Stack {
     {
         match self.above.pop() {
             Some(level) => {
-                drop(mem::replace(&mut self.at, level));
+                let Level {
+                    outer: _,
+                    row: _,
+                    here,
+                } = mem::replace(&mut self.at, level);
+                self.over.keep(here);
                 true
             }
             None => false,
@@ -158,6 +167,7 @@ impl Stack {
         alloc: Global,
         reader: &R,
         asked: &Asked,
+        over: &mut Over,
         steps: &mut Steps<R::Ledger>,
     ) -> Result<Level, NoMemory>
         requires can { CanRun asked.now (R.shown reader.now) }
@@ -171,7 +181,8 @@ impl Stack {
         match &self.at.row {
             Some(row) => {
                 let opening = self.openings.saturating_add(1);
-                self.at.inner(alloc, reader, asked, row, opening, steps)
+                self.at
+                    .inner(alloc, reader, asked, over, row, opening, steps)
             }
             None => unreachable!(),
         }
@@ -219,12 +230,12 @@ impl Stack {
     }
 
     /// The trace of the first FROM item's retrieval.
-    pub fn first_trace(&self) -> Trace
-        ensures { result ≡ trace_of (first_of self.now).here }
+    pub fn first_trace(&self) -> &Trace
+        ensures { result.now ≡ trace_of (first_of self.now).here }
     {
         match self.above.first() {
-            Some(level) => level.here.trace().copy(),
-            None => self.at.here.trace().copy(),
+            Some(level) => level.here.trace(),
+            None => self.at.here.trace(),
         }
     }
 }
@@ -263,7 +274,9 @@ impl Stack {
         ensures goes { GoesOn asked.now (R.shown reader.now) steps.old steps.new self.old self.new }
         ensures err { OnErr result (self.new ≡ self.old) }
     {
-        let inner = self.inner(alloc, reader, asked, steps)?;
+        let mut over = mem::replace(&mut self.over, Over::new());
+        let inner = self.inner(alloc, reader, asked, &mut over, steps)?;
+        drop(mem::replace(&mut self.over, over));
         self.descend(inner)?;
         Ok(Moved::Moving)
     }

@@ -11,10 +11,11 @@ use Rattle.rv_reader.specs.declared.reader.Chunk.{Chunk}
 use Rattle.rv_reader.specs.Leaves.{run_after}
 use Rattle.rv_reader.specs.Shown.{Shown}
 use Rattle.rv_jscan.specs.declared.jscan.ScanCounts.{ScanCounts}
+use Rattle.rv_jscan.specs.declared.jscan.ScanPlan.{ScanPlan}
 use Rattle.rv_jscan.specs.Entries.{has_entry, Apart, Disjoint}
 use Rattle.rv_jscan.specs.Pieces.{Pieced, may}
-use Rattle.rv_jscan.specs.Joint.{Joint, JointFits, InCompleted, Covers, IsNextLeaf, counts_at, meets, no_counts, passing, present, to_sieve, under_way}
-use Rattle.rv_jscan.specs.Steps.{Accepts, Awaits, HasEntries, abandoned, completed, counts_after, going, held_next, kept_of}
+use Rattle.rv_jscan.specs.Joint.{Joint, JointFits, InCompleted, Covers, IsNextLeaf, counts_at, meets, no_counts, passing, plan_at, present, to_sieve, under_way}
+use Rattle.rv_jscan.specs.Steps.{Accepts, Awaits, HasEntries, abandoned, begun, completed, counts_after, going, held_next, kept_of}
 use Rattle.rv_jscan.proofs.Parts.{Apart-run}
 use Rattle.rv_jscan.proofs.Kept.{found_or_ahead, fresh_after}
 
@@ -109,3 +110,18 @@ by_held old shown entries (Some h) i d = d.parts ∙ ap (λ (es : List IndexEntr
 -- what give accepts keeps the fit
 pub accepts_fits : (old new : Joint) (piece : Pieced) (shown : Shown) → Awaits old piece → Accepts old new piece.entries (held_next old.held) → JointFits old shown → JointFits new shown
 accepts_fits old new piece shown w a f = by_next old new shown piece.entries (held_next old.held) w.way a (by_held old shown piece.entries old.held w.entries f.drawn) f
+
+-- before the first step
+pub begun_fits :
+    (table snap : ℕ) (plans : List ScanPlan) (cursor opening : ℕ) (shown : Shown)
+    → length plans ≤ 8 → ((i : ℕ) → i < length plans → Apart (shown.entries (plan_at plans i).index snap))
+    → JointFits (begun table snap plans cursor opening) shown
+begun_fits table snap plans cursor opening shown few apart = record {
+  room = few;
+  within = omega arith;
+  apart = apart;
+  covers = tt;
+  builds = λ n done m. m;
+  fresh = λ n. refl;
+  drawn = tt;
+}

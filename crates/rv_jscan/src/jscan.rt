@@ -137,6 +137,30 @@ impl Jscan {
         }
     }
 
+    /// Begins anew with other scans, as one that `new` makes. It takes no memory.
+    pub fn renew(&mut self, table: u32, snap: u64, scans: Vec<ScanPlan>, cursor: u64, opening: u64)
+        requires { length scans.items ≤ 8 }
+        ensures begun { self.new ≡ begun table snap scans.items cursor opening }
+        ensures fits { (shown : Shown) → ((i : ℕ) → i < length scans.items → Apart (shown.entries (plan_at scans.items i).index snap)) → JointFits self.new shown }
+    {
+        let none = ScanCounts {
+            scanned: 0,
+            kept: 0,
+            leaves: 0,
+            listed: false,
+        };
+        drop(mem::replace(&mut self.plans, scans));
+        drop(self.list.take());
+        self.lane.renew();
+        self.table = table;
+        self.snap = snap;
+        self.cursor = cursor;
+        self.opening = opening;
+        self.counts = [none; 8];
+        self.ended = 0;
+        self.number = 1;
+    }
+
     fn is_under_way(&self) -> bool
         ensures { result ≡ under_way self.now }
     {
@@ -394,8 +418,8 @@ impl Jscan {
         ensures keys { IfSome self.new.list (λ keys. IsPermutation self.old.building keys × IsStrictlyIncreasing keys × (self.new ≡ record self.old { ended = self.old.ended + 1; place = None; held = None; building = []; list = Some keys })) }
         ensures some { IsSome self.new.list }
     {
-        let lane = mem::replace(&mut self.lane, Lane::new(self.alloc));
-        let _before = self.list.replace(lane.into_list());
+        let list = self.lane.take_list(self.alloc);
+        let _before = self.list.replace(list);
         self.ended += 1;
     }
 

@@ -108,6 +108,15 @@ impl Lane {
         }
     }
 
+    /// Goes back to where it has read nothing. It takes no memory.
+    pub fn renew(&mut self)
+        ensures { self.new ≡ no_lane }
+    {
+        drop(self.place.take());
+        drop(self.held.take());
+        self.building.renew();
+    }
+
     /// Whether the awaited leaf is held.
     pub fn is_held(&self) -> bool
         ensures { result ≡ is_some self.now.held }
@@ -361,5 +370,18 @@ impl Lane {
             building,
         } = self;
         finished(building)
+    }
+
+    /// The list that was built, in ascending order, after which it has read nothing. It takes no memory.
+    pub fn take_list(&mut self, alloc: Global) -> KeyList
+        ensures keys { IsPermutation self.old.building result.keys }
+        ensures ascends { IsStrictlyIncreasing result.keys }
+        ensures finished { result.finished ≡ true }
+        ensures anew { self.new ≡ no_lane }
+    {
+        drop(self.place.take());
+        drop(self.held.take());
+        self.building.finish();
+        mem::replace(&mut self.building, KeyList::new(alloc))
     }
 }

@@ -50,7 +50,7 @@ impl Piece {
         }
     }
 
-    /// Which piece it is.
+    /// Of which cursor and opening the piece is, and its number; a sieved piece is known again by it.
     pub fn id(&self) -> PieceId
         ensures { result ≡ self.now.id }
     {
@@ -108,7 +108,7 @@ pub fn sieve(piece: Piece) -> Sieved
 }
 
 impl Sieved {
-    /// Which piece it is.
+    /// The id of the piece that was sieved.
     pub fn id(&self) -> PieceId
         ensures { result ≡ self.now.id }
     {

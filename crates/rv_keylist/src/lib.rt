@@ -70,6 +70,18 @@ impl KeyList {
         }
     }
 
+    /// Takes all keys out, as if it were made anew. It keeps its memory, and takes none.
+    pub fn renew(&mut self)
+        ensures { self.new ≡ record { keys = []; spare = 0; finished = false } }
+    {
+        self.few.clear();
+        self.many.clear();
+        drop(self.filter.take());
+        self.spare = 0;
+        self.finished = false;
+    }
+
+    /// How many keys there are. What always holds is told with it: none stands twice, and once finished they ascend.
     pub fn len(&self) -> u64
         ensures count { result ≡ length self.now.keys }
         ensures once { Once self.now.keys }
@@ -78,6 +90,7 @@ impl KeyList {
         (self.few.len() + self.many.len()) as u64
     }
 
+    /// Whether no key was pushed; Rust's habit asks for it beside `len`.
     pub fn is_empty(&self) -> bool
         ensures { result ≡ (length self.now.keys == 0) }
     {

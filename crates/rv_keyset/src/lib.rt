@@ -106,7 +106,7 @@ impl KeySet {
         Ok(())
     }
 
-    /// The one list of all keys.
+    /// The list of all keys, once the lists that were put together are one.
     pub fn list(&self) -> &KeyList
         requires { self.now.whole ≡ true }
         ensures keys { result.now.keys ≡ self.now.keys }

@@ -1,4 +1,7 @@
 //! What is answered to a call.
+ghost use Rattle.std.specs.Prelude.{◌≡◌, IfOk};
+ghost use Rattle.rv_lang.specs.declared.reply.Reply.TheVariants.{Refused};
+
 use rv_judge::{Control, Strategy};
 use rv_value::{Duplicate, Items, NoMemory, RowNo, Shared, Text, Values};
 use std::alloc::Global;
@@ -110,38 +113,18 @@ pub enum Reply {
     Closed,
     /// How many background steps were done.
     Stepped(u64),
-    /// What the cursor's plan did so far. It is shared, so that every reply is small.
+    /// What the cursor's plan did so far. As a refusal it is shared: so every reply is small.
     Trace(Shared<Shown>),
-    Refused(Refusal),
+    Refused(Shared<Refusal>),
 }
 
-impl Duplicate for Refusal {
-    fn copy(&self, alloc: Global) -> Result<Refusal, NoMemory> {
-        Ok(match self {
-            Refusal::Syntax => Refusal::Syntax,
-            Refusal::Unknown(name) => Refusal::Unknown(name.copy(alloc)?),
-            Refusal::Exists(name) => Refusal::Exists(name.copy(alloc)?),
-            Refusal::Kind(name) => Refusal::Kind(name.copy(alloc)?),
-            Refusal::Active(txn) => Refusal::Active(*txn),
-            Refusal::NoTransaction => Refusal::NoTransaction,
-            Refusal::Busy(txn) => Refusal::Busy(*txn),
-            Refusal::ReadOnly => Refusal::ReadOnly,
-            Refusal::Changed { row, commit } => Refusal::Changed {
-                row: *row,
-                commit: *commit,
-            },
-            Refusal::Held { row, txn } => Refusal::Held {
-                row: *row,
-                txn: *txn,
-            },
-            Refusal::NoCursor(name) => Refusal::NoCursor(name.copy(alloc)?),
-            Refusal::CursorOpen(name) => Refusal::CursorOpen(name.copy(alloc)?),
-            Refusal::Limit { which, number } => Refusal::Limit {
-                which: *which,
-                number: *number,
-            },
-            Refusal::Duplicate { row, by } => Refusal::Duplicate { row: *row, by: *by },
-        })
+impl Reply {
+    /// A refusal as a reply, which shares it.
+    pub fn refused(alloc: Global, refusal: Refusal) -> Result<Reply, NoMemory>
+        ensures { IfOk result (λ reply. reply ≡ Refused refusal) }
+    {
+        let shared = Shared::new(alloc, refusal)?;
+        Ok(Reply::Refused(shared))
     }
 }
 

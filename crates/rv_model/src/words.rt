@@ -4,7 +4,7 @@ ghost use Rattle.rv_model.specs.Transcript.{limit_word};
 
 use rv_lang::Which;
 
-/// The word of a limit.
+/// The word by which a refusal names a limit.
 pub fn limit_word(which: Which) -> &'static [u8]
     ensures { result.now ≡ limit_word which }
 {

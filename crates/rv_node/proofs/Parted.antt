@@ -1,19 +1,17 @@
 -- Searches by halves among entries that ascend.
-use Rattle.std.proofs.Common.{◌≡◌, ℕ, zero, suc, ◌+◌, ◌-◌, ◌≤◌, Some, List, [], ◌∷◌, Bool, true, not, refl, ap, sym, ◌∙◌, subst, arith, length, filter, take, drop}
-use Rattle.std.proofs.lemmas.Bool.{and_parts, not-true}
-use Rattle.std.proofs.lemmas.Option.{same_Some}
-use Rattle.std.specs.Prelude.{slice_get}
+use Rattle.std.proofs.Common.{◌≡◌, ℕ, zero, suc, ◌+◌, ◌≤◌, List, [], ◌∷◌, Bool, true, not, refl, ap, sym, ◌∙◌, subst, arith, length, length-drop, length-take, filter, take, drop}
+use Rattle.std.proofs.lemmas.Bool.{not-true}
 use Rattle.std.specs.List.{list_all}
 use Rattle.std.specs.List.Sorted.{IsPartitionedBy}
-use Rattle.rv_value.proofs.Lists.{passes_take}
 use Rattle.rv_value.specs.declared.record.IndexEntry.{IndexEntry}
 use Rattle.rv_value.specs.declared.range.Range.{Range}
-use Rattle.rv_rows.proofs.Cuts.{partitioned, rising_drop, rising_take}
-use Rattle.rv_reader.specs.Entries.{AreLong, Ascend, comes_before}
+use Rattle.rv_rows.proofs.Cuts.{partitioned}
+use Rattle.rv_reader.specs.Entries.{Ascend, comes_before}
+use Rattle.rv_reader.proofs.Halving.{passes_further}
 use Rattle.rv_reader.proofs.Orders.{one_way, order}
 use Rattle.rv_reader.specs.Halves.{PassesTo, is_before, is_not_after}
 use Rattle.rv_node.specs.Children.{first_child, last_child, last_place}
-use Rattle.rv_node.specs.Ranks.{any, is_long}
+use Rattle.rv_node.specs.Ranks.{any}
 use Rattle.rv_node.specs.Trees.{up_to}
 use Rattle.rv_node.proofs.Orders.{lt_trans}
 
@@ -66,38 +64,19 @@ found_first range lows behind front k last is cut at first =
 pub counted_place : {X : Type 0} (p : X → Bool) (xs : List X) (k : ℕ) → PassesTo p k xs → k ≤ length xs → k ≡ last_place p 1 0 xs
 counted_place p xs k passes bound = let same : k ≡ 0 + k = omega arith in same ∙ sym (last_passed p xs k 1 0 passes bound refl)
 
--- Where the last item passes, its place is the last that passes.
+-- those that pass stand in each longer front too
+passes_front : {X : Type 0} (p : X → Bool) (n k : ℕ) (xs : List X) → PassesTo p n xs → n ≤ k → PassesTo p n (take k xs)
+passes_front p n zero xs passes few = tt
+passes_front p n (suc k) [] passes few = tt
+passes_front p zero (suc k) (x ∷ xs) passes few = (passes.0, passes_front p zero k xs passes.1 (omega arith))
+passes_front p (suc n) (suc k) (x ∷ xs) passes few = (passes.0, passes_front p n k xs passes.1 (omega arith))
 
-last_is : {X : Type 0} (p : X → Bool) (xs : List X) (i n b : ℕ) (y : X) → i + 1 ≡ length xs → slice_get xs i ≡ Some y → p y ≡ true → last_place p n b xs ≡ n + i
-last_is p [] i n b y long got so = absurd (omega (arith, long))
-last_is p (x ∷ []) zero n b y long got so = let same : n ≡ n + 0 = omega arith in rw (ap p (same_Some x y got) ∙ so) same
-last_is p (x ∷ z ∷ zs) zero n b y long got so = absurd (omega (arith, long))
-last_is p (x ∷ xs) (suc i) n b y long got so = let same : n + 1 + i ≡ n + suc i = omega arith in last_is p xs i (n + 1) _ y (omega (arith, long)) got so ∙ same
-
-pub last_found : {X : Type 0} (p : X → Bool) (xs : List X) (y : X) → slice_get xs (length xs - 1) ≡ Some y → p y ≡ true → last_place p 1 0 xs ≡ length xs
-last_found p [] y got so = refl
-last_found p (x ∷ xs) y got so =
-    let long : length (x ∷ xs) - 1 + 1 ≡ length (x ∷ xs) = omega arith in
-    let same : 1 + (length (x ∷ xs) - 1) ≡ length (x ∷ xs) = omega arith in
-    last_is p (x ∷ xs) (length (x ∷ xs) - 1) 1 0 y long got so ∙ same
-
--- A part in front.
-
-pub ascend_front : (n : ℕ) (lows behind front : List IndexEntry) → behind ≡ drop 1 lows → front ≡ take n behind → Ascend (drop 1 lows) → Ascend front
-ascend_front n lows behind front is cut ascend = subst Ascend (sym (cut ∙ ap (take n) is)) (rising_take comes_before n (drop 1 lows) ascend)
-
-pub long_front : (range : Range) (n : ℕ) (lows behind front : List IndexEntry) → behind ≡ drop 1 lows → front ≡ take n behind → AreLong range (drop 1 lows) → AreLong range front
-long_front range n lows behind front is cut long = subst (AreLong range) (sym (cut ∙ ap (take n) is)) (passes_take (is_long range) n (drop 1 lows) long)
-
--- A part behind.
-
-all_drop : {X : Type 0} (q : X → Bool) (n : ℕ) (xs : List X) → list_all q xs ≡ true → list_all q (drop n xs) ≡ true
-all_drop q zero xs all = all
-all_drop q (suc n) [] all = refl
-all_drop q (suc n) (x ∷ xs) all = all_drop q n xs (and_parts (q x) (list_all q xs) all).1
-
-pub ascend_behind : (n : ℕ) (es rest : List IndexEntry) → rest ≡ drop n es → Ascend es → Ascend rest
-ascend_behind n es rest is ascend = subst Ascend (sym is) (rising_drop comes_before n es ascend)
-
-pub long_behind : (range : Range) (n : ℕ) (es rest : List IndexEntry) → rest ≡ drop n es → AreLong range es → AreLong range rest
-long_behind range n es rest is long = subst (AreLong range) (sym is) (all_drop (is_long range) n es long)
+-- by how many low entries behind the first one are before the range, and how many of the others are not after it
+pub found_between : (range : Range) (lows behind rest : List IndexEntry) (first front : ℕ) → behind ≡ drop 1 lows → rest ≡ drop first behind → PassesTo (is_before range) first behind → first ≤ length behind → PassesTo (is_not_after range) front rest → front ≤ length rest → (first ≡ first_child range lows) × (first + front ≡ last_child range lows)
+found_between range lows behind rest first front is cut before few passes few_more =
+    let here = subst (PassesTo (is_not_after range) front) cut passes in
+    let left = ap length cut ∙ length-drop first behind in
+    let last = found_last range lows behind (first + front) is (passes_further range first front (first + front) behind refl before here) (omega (arith, left)) in
+    let long = length-take (first + front) behind in
+    let at = counted_place (is_before range) (take (first + front) behind) first (passes_front (is_before range) first (first + front) behind before (omega arith)) (omega (arith, left, long)) in
+    (found_first range lows behind (take (first + front) behind) first (first + front) is refl last at, last)

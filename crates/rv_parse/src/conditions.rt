@@ -59,6 +59,7 @@ fn cond<'a>(
     }
 }
 
+/// Reads a WHERE; where there is none the condition has no groups, and nothing is read.
 #[tactic(auto, unfolding(crate::specs::Reading::where_at))]
 pub fn only<'a>(
     alloc: Global,

@@ -115,6 +115,7 @@ fn goal<'a>(tokens: &'a [Token]) -> Result<(RawGoal, &'a [Token]), ParseFault>
     }
 }
 
+/// Reads an OPEN behind that word: the cursor's name, the columns, FROM, and what may follow.
 #[tactic(auto, unfolding(crate::specs::Reading::open_cursor_at))]
 pub fn open_cursor<'a>(
     alloc: Global,

@@ -297,6 +297,7 @@ fn on_cursor<'a>(alloc: Global, tokens: &'a [Token]) -> Result<(Statement, &'a [
     }
 }
 
+/// Reads a statement by its first words, and gives what is left behind it.
 #[tactic(auto, unfolding(crate::specs::Reading::body_at))]
 pub fn body<'a>(alloc: Global, tokens: &'a [Token]) -> Result<(Statement, &'a [Token]), ParseFault>
     ensures { Gives (λ x. (x.0, x.1.now)) result (body_at tokens.now) }

@@ -172,6 +172,8 @@ impl Race {
         Ok(last)
     }
 
+    /// Takes a sieved piece back: `Stale`, and nothing changes, where it is not the awaited one; else the judge is asked
+    /// and obeyed, but for a scan's last piece.
     pub(crate) fn give_piece(
         &mut self,
         sieved: Sieved,

@@ -188,6 +188,7 @@ impl Race {
         }
     }
 
+    /// The id of the next piece, whichever of the two scans it is of: pieces are numbered through the race.
     pub(crate) fn next_id(&self) -> PieceId
         ensures { result ≡ next_id self.now }
     {
@@ -267,6 +268,7 @@ impl Race {
         self.plan(self.lower_scan()).index
     }
 
+    /// Whether the list of one of the scans is complete.
     pub(crate) fn is_listed(&self) -> bool
         ensures { result ≡ is_some self.now.list }
     {
@@ -468,7 +470,8 @@ impl Race {
         self.running.turn.lane.building().len()
     }
 
-    /// Counts a piece.
+    /// Counts what was scanned and kept of a piece into its scan, and numbers the next piece. Counts stop at the greatest
+    /// number.
     pub(crate) fn count_piece(&mut self, entries: u64, kept: u64, listed: bool)
         ensures { self.new ≡ record self.old { counts = slice_set self.old.counts (turn_scan self.old) (piece_counted (counts_at self.old.counts (turn_scan self.old)) entries kept listed); number = one_more self.old.number } }
     {

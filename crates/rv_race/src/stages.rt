@@ -48,7 +48,7 @@ impl Race {
         }
     }
 
-    /// A step of the final list.
+    /// A step of the final stage over the complete list.
     fn list_step<R: Reader>(
         &mut self,
         reader: &R,

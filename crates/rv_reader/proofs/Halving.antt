@@ -1,14 +1,15 @@
 -- Searches by halves among entries that ascend: what they find, and how many entries are in a range.
-use Rattle.std.proofs.Common.{◌≡◌, ℕ, zero, suc, ◌+◌, ◌-◌, ◌≤◌, List, [], ◌∷◌, Bool, true, false, not, ◌&&◌, refl, sym, ◌∙◌, inl, inr, arith, length, Option, Some, None}
-use Rattle.std.proofs.lemmas.Bool.{cases_Bool, not-true}
-use Rattle.std.specs.List.{AllWithin}
+use Rattle.std.proofs.Common.{◌≡◌, ℕ, zero, suc, ◌+◌, ◌-◌, ◌<◌, ◌≤◌, List, [], ◌∷◌, Bool, true, false, not, ◌&&◌, ap, refl, subst, sym, ◌∙◌, inl, inr, arith, drop, length, Option, Some, None}
+use Rattle.std.proofs.lemmas.Bool.{and_parts, cases_Bool, not-true}
+use Rattle.std.proofs.lemmas.List.{get_or_read}
+use Rattle.std.specs.List.{AllWithin, list_all, slice_index_or}
 use Rattle.std.specs.List.Sorted.{IsPartitionedBy}
 use Rattle.rv_value.specs.declared.record.IndexEntry.{IndexEntry}
 use Rattle.rv_value.specs.declared.range.Range.{Range}
 use Rattle.rv_value.specs.declared.range.Side.{Side}
 use Rattle.rv_value.specs.declared.range.Side.TheVariants.{Before, In, After}
 use Rattle.rv_value.specs.Ranges.{in_side, place}
-use Rattle.rv_rows.proofs.Cuts.{partitioned}
+use Rattle.rv_rows.proofs.Cuts.{partitioned, rising_drop}
 use Rattle.rv_reader.specs.Entries.{AreLong, Ascend, comes_before, run}
 use Rattle.rv_reader.specs.Halves.{PassesTo, is_before, is_not_after}
 use Rattle.rv_reader.specs.Leaves.{after_side, before_side, is_passed}
@@ -23,6 +24,19 @@ passes_to p (x ∷ xs) zero h front back =
     (back 0 x (omega arith) (omega arith), passes_to p xs zero (omega arith) (λ k d l u. absurd (omega arith)) (λ k d l u. back (suc k) d (omega arith) (omega arith)))
 passes_to p (x ∷ xs) (suc i) h front back =
     (front 0 x (omega arith) (omega arith), passes_to p xs i (omega arith) (λ k d l u. front (suc k) d (omega arith) (omega arith)) (λ k d l u. back (suc k) d (omega arith) (omega arith)))
+
+-- what a test says of an item that was read at a place
+pub read_says : {X : Type 0} (p : X → Bool) (xs : List X) (i : ℕ) (x : X) (b : Bool) → i < length xs → x ≡ slice_index_or xs i x → p x ≡ b → (d : X) → p (slice_index_or xs i d) ≡ b
+read_says p xs i x b within is says d = ap p (sym (get_or_read xs i x within is d)) ∙ says
+
+-- a place before which a test holds and at which it fails, where it fails of all that comes after one of which it fails
+pub passes_between : {X : Type 0} (p : X → Bool) (xs : List X) (i : ℕ) → IsPartitionedBy p xs → i ≤ length xs → ((d : X) → 0 < i → p (slice_index_or xs (i - 1) d) ≡ true) → ((d : X) → i < length xs → p (slice_index_or xs i d) ≡ false) → PassesTo p i xs
+passes_between p xs i parted h front back =
+    passes_to p xs i h (λ k d l u. parted k (i - 1) d (omega arith) (omega arith) (front d (omega arith)))
+    (λ k d l u. elim (cases_Bool (p (slice_index_or xs k d))) [
+      | inl t ↦ let yes : p (slice_index_or xs i d) ≡ true = parted i k d l u t in let no : p (slice_index_or xs i d) ≡ false = back d (omega arith) in absurd cc
+      | inr f ↦ f
+    ])
 
 -- Tests that, once they fail, fail of all that comes after.
 
@@ -56,24 +70,43 @@ sides Before = (λ h. refl, refl)
 sides In = (λ h. refl, refl)
 sides After = (λ h. cc, refl)
 
--- those that pass one test and not a sharper one
-counted : (range : Range) (n m : ℕ) (es : List IndexEntry) → PassesTo (is_before range) n es → PassesTo (is_not_after range) m es → n ≤ length es → m ≤ length es → length (run es range) + n ≡ m
-counted range n m [] p q h k = omega arith
-counted range zero zero (e ∷ es) p q h k =
-    let rest = counted range zero zero es p.1 q.1 (omega arith) (omega arith) in
+-- where none is before the range, those up to the first that is after it
+counted : (range : Range) (m : ℕ) (es : List IndexEntry) → PassesTo (is_before range) 0 es → PassesTo (is_not_after range) m es → m ≤ length es → m ≡ length (run es range)
+counted range m [] p q k = omega arith
+counted range zero (e ∷ es) p q k =
+    let rest = counted range zero es p.1 q.1 (omega arith) in
     rw ((sides (place range e.key)).1, q.0) rest
-counted range zero (suc m) (e ∷ es) p q h k =
-    let rest = counted range zero m es p.1 q.1 (omega arith) (omega arith) in
-    rw ((sides (place range e.key)).1, q.0, p.0) (omega arith)
-counted range (suc n) zero (e ∷ es) p q h k =
-    let both_ways = (sides (place range e.key)).0 p.0 in
-    let no : true ≡ false = sym both_ways ∙ q.0 in
-    cc
-counted range (suc n) (suc m) (e ∷ es) p q h k =
-    let rest = counted range n m es p.1 q.1 (omega arith) (omega arith) in
+counted range (suc m) (e ∷ es) p q k =
+    let rest = counted range m es p.1 q.1 (omega arith) in
     rw ((sides (place range e.key)).1, q.0, p.0) (omega arith)
 
-pub count_is : (range : Range) (n m : ℕ) (es : List IndexEntry) → PassesTo (is_before range) n es → PassesTo (is_not_after range) m es → n ≤ length es → m ≤ length es → (n ≤ m) × (m - n ≡ length (run es range))
-count_is range n m es p q h k =
-    let sum = counted range n m es p q h k in
-    (omega arith, omega arith)
+-- those behind the ones before the range, up to the first that is after it
+pub count_behind : (range : Range) (n m : ℕ) (es : List IndexEntry) → PassesTo (is_before range) n es → n ≤ length es → PassesTo (is_not_after range) m (drop n es) → m ≤ length (drop n es) → m ≡ length (run es range)
+count_behind range zero m es p h q k = counted range m es p q k
+count_behind range (suc n) m [] p h q k = absurd (omega arith)
+count_behind range (suc n) m (e ∷ es) p h q k =
+    let rest = count_behind range n m es p.1 (omega arith) q k in
+    rw ((sides (place range e.key)).1, (sides (place range e.key)).0 p.0, p.0) rest
+
+-- those that are not after it, by those before it and those behind them
+pub passes_further : (range : Range) (n m k : ℕ) (es : List IndexEntry) → k ≡ n + m → PassesTo (is_before range) n es → PassesTo (is_not_after range) m (drop n es) → PassesTo (is_not_after range) k es
+passes_further range zero m k es is p q =
+    let same : m ≡ k = omega (arith, is) in
+    subst (λ (i : ℕ). PassesTo (is_not_after range) i es) same q
+passes_further range (suc n) m k [] is p q = tt
+passes_further range (suc n) m zero (e ∷ es) is p q = absurd (omega (arith, is))
+passes_further range (suc n) m (suc k) (e ∷ es) is p q =
+    ((sides (place range e.key)).0 p.0, passes_further range n m k es (omega (arith, is)) p.1 q)
+
+-- A part behind.
+
+all_drop : {X : Type 0} (q : X → Bool) (n : ℕ) (xs : List X) → list_all q xs ≡ true → list_all q (drop n xs) ≡ true
+all_drop q zero xs all = all
+all_drop q (suc n) [] all = refl
+all_drop q (suc n) (x ∷ xs) all = all_drop q n xs (and_parts (q x) (list_all q xs) all).1
+
+pub ascend_behind : (n : ℕ) (es rest : List IndexEntry) → rest ≡ drop n es → Ascend es → Ascend rest
+ascend_behind n es rest is ascend = subst Ascend (sym is) (rising_drop comes_before n es ascend)
+
+pub long_behind : (range : Range) (n : ℕ) (es rest : List IndexEntry) → rest ≡ drop n es → AreLong range es → AreLong range rest
+long_behind range n es rest is long = subst (AreLong range) (sym is) (all_drop (is_long range) n es long)

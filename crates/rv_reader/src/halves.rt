@@ -1,5 +1,5 @@
 //! Searches by halves among entries that ascend.
-ghost use Rattle.std.specs.Prelude.{◌≡◌, ◌≤◌, length};
+ghost use Rattle.std.specs.Prelude.{◌≡◌, ◌≤◌, length, not};
 ghost use Rattle.std.specs.Option.{option_copied};
 ghost use Rattle.rv_reader.specs.Entries.{AreLong, Ascend, run};
 ghost use Rattle.rv_reader.specs.Halves.{PassesTo, is_before, is_not_after};
@@ -28,13 +28,47 @@ pub fn count_not_after(entries: &[IndexEntry], range: &Range) -> usize
     entries.partition_point(|entry| range.place(&entry.key) != Side::After)
 }
 
-/// How many of ascending entries are in a range: those that are not after it, without those before it.
+fn is_after(entry: &IndexEntry, range: &Range) -> bool
+    ensures { is_not_after range.now entry.now ≡ not result }
+{
+    range.place(&entry.key) == Side::After
+}
+
+/// How many of ascending entries are not after a range, where few or all are expected to be: the first two and the last one
+/// are looked at before the others.
+pub fn count_front(entries: &[IndexEntry], range: &Range) -> usize
+    requires ascend { Ascend entries.now }
+    requires long { AreLong range.now entries.now }
+    ensures bound { result ≤ length entries.now }
+    ensures passes { PassesTo (is_not_after range.now) result entries.now }
+{
+    let count = entries.len();
+    if count == 0 {
+        return 0;
+    }
+    if is_after(&entries[0], range) {
+        return 0;
+    }
+    if count == 1 {
+        return 1;
+    }
+    if is_after(&entries[1], range) {
+        return 1;
+    }
+    if is_after(&entries[count - 1], range) {
+        return count_not_after(entries, range);
+    }
+    count
+}
+
+/// How many of ascending entries are in a range: those that are not before it, up to the first that is after it.
 pub fn count_in(entries: &[IndexEntry], range: &Range) -> usize
     requires ascend { Ascend entries.now }
     requires long { AreLong range.now entries.now }
     ensures { result ≡ length (run entries.now range.now) }
 {
-    count_not_after(entries, range) - count_before(entries, range)
+    let (_, rest) = entries.split_at(count_before(entries, range));
+    count_front(rest, range)
 }
 
 /// How many of ascending cuts are not behind the leaf in which a reading of a range begins, from an entry or from the

@@ -1,5 +1,5 @@
 -- A row found by its number in ascending rows.
-use Rattle.std.proofs.Common.{◌≡◌, ℕ, ◌<◌, ◌≤◌, List, [], ◌∷◌, Bool, true, false, not, ◌==◌, refl, ap, sym, inl, inr, arith, length, zero, suc, filter, drop, nat_lt}
+use Rattle.std.proofs.Common.{◌≡◌, ℕ, ◌<◌, ◌≤◌, List, [], ◌∷◌, Bool, true, false, not, ◌==◌, refl, ap, sym, ◌∙◌, Option, Some, None, inl, inr, arith, length, zero, suc, filter, drop, nat_lt}
 use Rattle.std.proofs.lemmas.Bool.{cases_Bool, and_parts}
 use Rattle.std.proofs.lemmas.Bool.Decides.{nat_tests}
 use Rattle.std.specs.List.{slice_index_or, list_all, AllWithin}
@@ -43,3 +43,26 @@ first_is number (r ∷ rows) ascend = elim (cases_Bool (nat_lt r.row.0 number)) 
         rw (f, n) (sym (row_behind number r rows ascend.0 high))
   ]
 ]
+
+-- a row of the number, in whatever place, is the row of the number
+pub found_in : (number place : ℕ) (rows : List Record) (r : Record) → Ascend rows → row_from number (drop place rows) ≡ Some r → row_at rows number ≡ Some r
+found_in number zero [] r ascend found = found
+found_in number zero (x ∷ rows) r ascend found = elim (cases_Bool (x.row.0 == number)) [
+  | inl e ↦
+      let same : row_at (x ∷ rows) number ≡ row_from number (x ∷ rows) = rw e refl in
+      same ∙ found
+  | inr n ↦
+      let none : row_from number (x ∷ rows) ≡ None = rw n refl in
+      let no : None ≡ Some r = sym none ∙ found in
+      absurd cc
+]
+found_in number (suc place) [] r ascend found = found
+found_in number (suc place) (x ∷ rows) r ascend found =
+    let rest = found_in number place rows r ascend.1 found in
+    elim (cases_Bool (x.row.0 == number)) [
+      | inl e ↦
+          let high : number ≤ x.row.0 = grind (arith, nat_tests) in
+          let no : None ≡ Some r = sym (row_behind number x rows ascend.0 high) ∙ rest in
+          absurd cc
+      | inr n ↦ rw n rest
+    ]

@@ -26,10 +26,14 @@ fn row_in(rows: &[Record], place: usize, row: RowNo) -> Option<&Record>
     }
 }
 
-/// The row of a number in ascending rows, found by halves; None where there is none.
+/// The row of a number in the ascending rows of its page; None where there is none. It is looked for first where it stands
+/// while each number of the page has a row, then by halves.
 pub fn find_row(rows: &[Record], row: RowNo) -> Option<&Record>
     requires { Ascend rows.now }
     ensures { option_copied result ≡ row_at rows.now row.0 }
 {
-    row_in(rows, rows_below(rows, row), row)
+    match row_in(rows, (row.0 % 32) as usize, row) {
+        Some(found) => Some(found),
+        None => row_in(rows, rows_below(rows, row), row),
+    }
 }

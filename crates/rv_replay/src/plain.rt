@@ -15,7 +15,7 @@ ghost use Rattle.rv_replay.specs.Judging.{Compares, Done, JudgesAsked, JudgesFet
 use crate::cursors::{OpenCursor, close_all, cursor_named, fetch_at, may_open, table_at};
 use crate::opening::{first_table, offers_of};
 use crate::queues::queue_of;
-use crate::same::same_reply;
+use crate::same::{same_refusal, same_reply};
 use crate::telling::{may_step, may_tell};
 use rv_catalog::{BindFault, Catalog, IndexDef, Resolved, Select, TableDef};
 use rv_core::database::Database;
@@ -84,7 +84,7 @@ impl PlainDatabase {
         Ok(first(replies))
     }
 
-    /// CREATE INDEX.
+    /// CREATE INDEX, by the database of rv_core; nothing is kept here of indexes.
     fn create_index(&mut self, def: IndexDef) -> Result<Reply, NoMemory>
         requires new { IsNewIndex self.old.schema def }
         requires some { 1 ≤ length def.columns }
@@ -95,7 +95,7 @@ impl PlainDatabase {
         Ok(first(replies))
     }
 
-    /// BEGIN.
+    /// BEGIN, by the database of rv_core.
     fn begin(&mut self, session: u8, read_only: bool) -> Result<Reply, NoMemory>
         requires { HasRoom self.old }
         ensures { IfOk result (λ reply. Done (began self.old session read_only) self.old reply self.new) }
@@ -104,7 +104,7 @@ impl PlainDatabase {
         Ok(first(replies))
     }
 
-    /// INSERT.
+    /// INSERT, by the database of rv_core.
     fn insert(&mut self, session: u8, table: u32, values: Values) -> Result<Reply, NoMemory>
         requires { IsRowOf self.old.schema table values }
         ensures { IfOk result (λ reply. Done (inserted self.old session table values) self.old reply self.new) }
@@ -132,7 +132,7 @@ impl PlainDatabase {
         Ok(first(replies))
     }
 
-    /// COMMIT.
+    /// COMMIT, by the database of rv_core; where it ended the transaction, the cursors kept here close.
     fn commit(&mut self, session: u8) -> Result<Reply, NoMemory>
         requires { HasRoom self.old }
         ensures { IfOk result (λ reply. Done (committed self.old session) self.old reply self.new) }
@@ -143,7 +143,7 @@ impl PlainDatabase {
         Ok(reply)
     }
 
-    /// ROLLBACK.
+    /// ROLLBACK, by the database of rv_core; where it ended the transaction, the cursors kept here close.
     fn rollback(&mut self, session: u8) -> Result<Reply, NoMemory>
         ensures { IfOk result (λ reply. Done (rolled_back self.old session) self.old reply self.new) }
     {
@@ -153,7 +153,7 @@ impl PlainDatabase {
         Ok(reply)
     }
 
-    /// OPEN.
+    /// OPEN the slow way: all offers are found by nested loops over lists and kept as a queue.
     fn open(&mut self, session: u8, name: Text, select: &Select) -> Result<Reply, NoMemory>
         requires { IsQueryOf self.old.schema select.now }
         ensures { IfOk result (λ reply. Done (opened self.old session name select.now) self.old reply self.new) }
@@ -166,7 +166,7 @@ impl PlainDatabase {
             &name,
         ) {
             Ok(_base) => {}
-            Err(TxnFault::Refused(refusal)) => return Ok(Reply::Refused(refusal)),
+            Err(TxnFault::Refused(refusal)) => return Reply::refused(self.alloc, refusal),
             Err(TxnFault::NoMemory) => return Err(NoMemory),
         }
         let offers = offers_of(self.alloc, &self.database, session, select)?;
@@ -217,7 +217,7 @@ impl PlainDatabase {
         }
     }
 
-    /// CLOSE.
+    /// CLOSE of a cursor that is kept here.
     fn close(&mut self, session: u8, name: Text) -> Result<Reply, NoMemory>
         ensures { IfOk result (λ reply. Done (closed self.old session name) self.old reply self.new) }
     {
@@ -227,7 +227,7 @@ impl PlainDatabase {
                 drop(self.cursors.remove(place));
                 Ok(Reply::Closed)
             }
-            None => Ok(Reply::Refused(Refusal::NoCursor(name))),
+            None => Reply::refused(self.alloc, Refusal::NoCursor(name)),
         }
     }
 }
@@ -275,9 +275,11 @@ fn compared(made: Result<Reply, NoMemory>, given: &Reply) -> Result<bool, NoMemo
 fn refuses(refusal: Refusal, given: &Reply) -> bool
     ensures { IsTrue result ↔ (Refused refusal ≡ given.now) }
 {
-    let reply = Reply::Refused(refusal);
-    let same = same_reply(&reply, given);
-    drop(reply);
+    let same = match given {
+        Reply::Refused(other) => same_refusal(&refusal, other.get()),
+        _ => false,
+    };
+    drop(refusal);
     same
 }
 

@@ -22,7 +22,7 @@ pub fn same_reply(a: &Reply, b: &Reply) -> bool
         (Reply::Closed, Reply::Closed) => true,
         (Reply::Stepped(a), Reply::Stepped(b)) => *a == *b,
         (Reply::Trace(a), Reply::Trace(b)) => same_trace(a.get(), b.get()),
-        (Reply::Refused(a), Reply::Refused(b)) => same_refusal(a, b),
+        (Reply::Refused(a), Reply::Refused(b)) => same_refusal(a.get(), b.get()),
         _ => false,
     }
 }

@@ -1,5 +1,5 @@
 //! The range of an index for a restriction.
-ghost use Rattle.std.specs.Prelude.{◌≡◌, ◌≤◌, ◌<◌, ◌+◌, IfOk, List, length, option_copied};
+ghost use Rattle.std.specs.Prelude.{◌≡◌, ◌≤◌, ◌<◌, ◌+◌, ◌∷◌, [], IfOk, List, Some, length, option_copied};
 ghost use Rattle.rv_value.specs.declared.value.Value.{Value as OneValue};
 ghost use Rattle.rv_value.specs.declared.value.Value.TheVariants.{Null};
 ghost use Rattle.rv_value.specs.declared.range.Side.{Side};
@@ -8,7 +8,7 @@ ghost use Rattle.rv_value.specs.Ranges.{place};
 ghost use Rattle.rv_restrict.specs.declared.atom.Tri.{Tri};
 ghost use Rattle.rv_restrict.specs.Groups.{groups_of};
 ghost use Rattle.rv_restrict.specs.Truth.{truth};
-ghost use Rattle.rv_restrict.specs.Ranges.{AreShort, between_limit, closed_bound, compare_limit, first_equal, first_start, greater_end, greatest_low, group_limit, high_bound, key_of, least_high, lesser_end, limit, limits_on, null_limit, operand_limit, range_for};
+ghost use Rattle.rv_restrict.specs.Ranges.{AreShort, between_limit, closed_bound, compare_limit, equal_range, first_equal, first_start, greater_end, greatest_low, group_limit, high_bound, if_some, key_of, least_high, lesser_end, limit, limits_on, null_limit, operand_limit, range_for};
 ghost use Rattle.rv_restrict.specs.Limits.{end_of, end_option, given_option, limit_of};
 
 use crate::atom::{Atom, Op, Operand};
@@ -68,7 +68,55 @@ impl Restriction {
         ensures short { IfOk result (λ r. AreShort (length columns.now) r) }
         ensures covers { (row : List OneValue) → truth self.now row ≡ Tri.True → IfOk result (λ r. place r (key_of row columns.now) ≡ Side.In) }
     {
-        range_from(alloc, self.groups(), columns, Vec::new(alloc))
+        range_on(alloc, self.groups(), columns)
+    }
+}
+
+fn range_on(alloc: Global, groups: &[Vec<Atom>], columns: &[u32]) -> Result<Range, NoMemory>
+    requires { length columns.now ≤ 4 }
+    ensures { IfOk result (λ r. r ≡ Rattle.rv_restrict.specs.Ranges.range_from (groups_of groups.now) [] columns.now) }
+{
+    match columns {
+        [column] => range_of_one(alloc, &limits_on(groups, *column)),
+        _ => range_from(alloc, groups, columns, Vec::new(alloc)),
+    }
+}
+
+/// The range of an index of one column, for what is said of the column.
+fn range_of_one(alloc: Global, limits: &Limits) -> Result<Range, NoMemory>
+    ensures { IfOk result (λ r. r ≡ if_some (given_option limits.now.equal) (λ v. equal_range (v ∷ [])) (Rattle.rv_restrict.specs.Limits.range_of [] limits.now)) }
+{
+    match limits.equal {
+        Some(value) => range_at(alloc, value),
+        None => last_range(alloc, Vec::new(alloc), limits),
+    }
+}
+
+/// The range of the keys that are one value, for which no list is made.
+fn range_at<'a>(alloc: Global, value: Given<'a>) -> Result<Range, NoMemory>
+    ensures { IfOk result (λ r. r ≡ equal_range (Rattle.rv_restrict.specs.Limits.given value.entry ∷ [])) }
+{
+    let low = value.copy(alloc)?;
+    match value.copy(alloc) {
+        Ok(high) => Ok(Range {
+            low: Some(end_at(low)),
+            high: Some(end_at(high)),
+            starts: false,
+        }),
+        Err(fault) => {
+            drop(low);
+            Err(fault)
+        }
+    }
+}
+
+/// The closed bound of one value.
+fn end_at(value: Value) -> Bound
+    ensures { Some result ≡ closed_bound (value ∷ []) }
+{
+    Bound {
+        key: Key::one(value),
+        closed: true,
     }
 }
 

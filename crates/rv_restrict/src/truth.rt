@@ -1,6 +1,7 @@
 //! The truth of restrictions.
 ghost use Rattle.std.specs.Prelude.{◌≡◌, true, Bool, IfOk};
 ghost use Rattle.rv_value.specs.declared.value.Value.{Value as OneValue};
+ghost use Rattle.rv_value.specs.declared.value.Value.TheVariants.{Int};
 ghost use Rattle.rv_restrict.specs.declared.atom.ColRef.{ColRef as Column};
 ghost use Rattle.rv_restrict.specs.Groups.{groups_of};
 ghost use Rattle.rv_restrict.specs.Truth.{among, atom_names_only, atom_truth, between, compared, greater, group_names_only, group_truth, is_null, lesser, names_only, null_test, operand_names_only, row_has, row_reads, started, truth, truth_by, truth_of, value_of};
@@ -106,10 +107,20 @@ pub fn all_groups<R: Reads>(groups: &[Vec<Atom>], rows: &R) -> Tri
     ensures { result ≡ truth_by (R.reads rows.now) (groups_of groups.now) }
 {
     match groups {
+        [group] => any_atom(group.as_slice(), rows),
+        _ => least_group(groups, rows),
+    }
+}
+
+fn least_group<R: Reads>(groups: &[Vec<Atom>], rows: &R) -> Tri
+    requires { names_only (R.has rows.now) (groups_of groups.now) ≡ true }
+    ensures { result ≡ truth_by (R.reads rows.now) (groups_of groups.now) }
+{
+    match groups {
         [] => Tri::True,
         [group, more @ ..] => match any_atom(group.as_slice(), rows) {
             Tri::False => Tri::False,
-            truth => truth.and(all_groups(more, rows)),
+            truth => truth.and(least_group(more, rows)),
         },
     }
 }
@@ -120,10 +131,20 @@ fn any_atom<R: Reads>(atoms: &[Atom], rows: &R) -> Tri
     ensures { result ≡ group_truth (R.reads rows.now) atoms.now }
 {
     match atoms {
+        [atom] => atom.truth(rows),
+        _ => greatest_atom(atoms, rows),
+    }
+}
+
+fn greatest_atom<R: Reads>(atoms: &[Atom], rows: &R) -> Tri
+    requires { group_names_only (R.has rows.now) atoms.now ≡ true }
+    ensures { result ≡ group_truth (R.reads rows.now) atoms.now }
+{
+    match atoms {
         [] => Tri::False,
         [atom, more @ ..] => match atom.truth(rows) {
             Tri::True => Tri::True,
-            truth => truth.or(any_atom(more, rows)),
+            truth => truth.or(greatest_atom(more, rows)),
         },
     }
 }
@@ -222,6 +243,15 @@ fn answers(op: Op, order: Ordering) -> bool
 fn compare(x: &Value, op: Op, y: &Value) -> Tri
     ensures { result ≡ compared x.now op y.now }
 {
+    match (x, y) {
+        (Value::Int(x), Value::Int(y)) => known(answers(op, x.cmp(y))),
+        _ => compare_any(x, op, y),
+    }
+}
+
+fn compare_any(x: &Value, op: Op, y: &Value) -> Tri
+    ensures { result ≡ compared x.now op y.now }
+{
     if null(x) || null(y) {
         return Tri::Unknown;
     }
@@ -231,7 +261,29 @@ fn compare(x: &Value, op: Op, y: &Value) -> Tri
 fn lies_between(x: &Value, low: &Value, high: &Value) -> Tri
     ensures { result ≡ between x.now low.now high.now }
 {
-    compare(x, Op::Ge, low).and(compare(x, Op::Le, high))
+    match (x, low, high) {
+        (Value::Int(x), Value::Int(low), Value::Int(high)) => number_between(*x, *low, *high),
+        _ => any_between(x, low, high),
+    }
+}
+
+fn number_between(x: i64, low: i64, high: i64) -> Tri
+    ensures { result ≡ between (Int x) (Int low) (Int high) }
+{
+    if x.cmp(&low).is_ge() {
+        known(x.cmp(&high).is_le())
+    } else {
+        Tri::False
+    }
+}
+
+fn any_between(x: &Value, low: &Value, high: &Value) -> Tri
+    ensures { result ≡ between x.now low.now high.now }
+{
+    match compare_any(x, Op::Ge, low) {
+        Tri::False => Tri::False,
+        truth => truth.and(compare_any(x, Op::Le, high)),
+    }
 }
 
 fn is_among(x: &Value, list: &[Value]) -> Tri

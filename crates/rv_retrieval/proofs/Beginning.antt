@@ -1,5 +1,5 @@
 -- A retrieval before its first step.
-use Rattle.std.proofs.Common.{◌≡◌, ℕ, ◌<◌, List, [], length, Bool, true, false, not, ◌&&◌, ◌||◌, refl, ap, sym, ◌∙◌, arith, subst, inl}
+use Rattle.std.proofs.Common.{◌≡◌, ℕ, ◌+◌, ◌<◌, List, [], length, Bool, true, false, not, ◌&&◌, ◌||◌, refl, ap, sym, ◌∙◌, arith, subst, inl}
 use Rattle.std.proofs.lemmas.Bool.{and_from}
 use Rattle.rv_final.proofs.Owed.{all_qualifying, row_there}
 use Rattle.rv_value.specs.declared.record.Record.{Record}
@@ -7,12 +7,15 @@ use Rattle.rv_keys.specs.Keys.{has_key}
 use Rattle.rv_judge.specs.declared.events.Strategy.{Strategy}
 use Rattle.rv_judge.specs.declared.events.Strategy.TheVariants.{Table, BackgroundOnly, FastFirst, Sorted, IndexOnly, Union}
 use Rattle.rv_judge.specs.declared.events.Control.{Control}
+use Rattle.rv_judge.specs.Tracing.{NothingCounted, new_trace}
 use Rattle.rv_reader.specs.Shown.{Shown}
-use Rattle.rv_scan.specs.Places.{unseen, Fits as PlaceFits}
+use Rattle.rv_scan.specs.Places.{unseen, Fits as PlaceFits, work as pages_work}
 use Rattle.rv_jscan.specs.declared.jscan.ScanPlan.{ScanPlan}
 use Rattle.rv_jscan.specs.Joint.{CanTake, Joint, JointFits, meets, plan_at}
 use Rattle.rv_jscan.specs.Steps.{begun}
 use Rattle.rv_final.specs.Rest.{qualifies_at, qualifying, has_row}
+use Rattle.rv_final.specs.Stage.{Unbegun}
+use Rattle.rv_retrieval.specs.Opened.{Made, has_scans}
 use Rattle.rv_retrieval.specs.Opens.{Opens, first_of}
 use Rattle.rv_retrieval.specs.Shape.{Shape, RetrievalFits, Source, Undelivered, Ahead, Keys, Pages, rest, source, source_of, left_at, rows_of, is_building, is_index_only, is_sorted, is_led}
 use Rattle.rv_final.proofs.Rests.{same_rest}
@@ -105,3 +108,30 @@ opened_rest v scans cursor opening some shown n o = same_rest v.query.only (rows
     go Sorted false e k q = o.all (ap is_led e) k q
     go IndexOnly true e k q = o.all (ap is_led e) k q
     go IndexOnly false e k q = o.all (ap is_led e) k q
+
+-- what was made of its parts
+pub made_of :
+    (v : Shape) (scans : List ScanPlan) (cursor opening : ℕ)
+    → v.trace ≡ new_trace v.strategy → v.borrowed ≡ 0 → Unbegun v.at v.last
+    → ((rows : List Record) (pages : ℕ) → pages_work v.last rows pages ≡ length rows + pages)
+    → Fresh v scans cursor opening (has_scans scans)
+    → ((shown : Shown) → Opens v.query v.strategy scans v.front shown → JointFits v.joint shown)
+    → Made v.query v.strategy scans v.front v.guaranteed cursor opening v
+made_of v scans cursor opening told borrowed unbegun work fresh drawn = record {
+  begun = record {
+    asked = refl;
+    chosen = refl;
+    joint = fresh.joint;
+    front = refl;
+    fresh = fresh.delivered;
+    bound = refl;
+    started = fresh.control;
+    counts = subst NothingCounted (sym told) (record { pages = refl; leaves = refl; fetches = refl });
+    borrowed = borrowed;
+    unbegun = unbegun;
+  };
+  told = told;
+  last = work;
+  fits = λ shown o. opened_fits v scans cursor opening (has_scans scans) shown fresh (drawn shown o) o;
+  rest = λ shown o. opened_rest v scans cursor opening (has_scans scans) shown fresh o;
+}

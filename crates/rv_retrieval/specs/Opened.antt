@@ -11,6 +11,7 @@ use Rattle.rv_judge.specs.declared.events.Trace.{Trace}
 use Rattle.rv_judge.specs.Runs.{start_events}
 use Rattle.rv_keys.specs.Keys.{has_key}
 use Rattle.rv_reader.specs.Shown.{Shown}
+use Rattle.rv_value.specs.declared.record.Record.{Record}
 use Rattle.rv_jscan.specs.declared.jscan.ScanPlan.{ScanPlan}
 use Rattle.rv_jscan.specs.Entries.{has_entry}
 use Rattle.rv_jscan.specs.Joint.{Joint, meets, passing, plan_at, present, to_sieve, under_way}
@@ -20,14 +21,16 @@ use Rattle.rv_choice.specs.declared.query.Query.{Query}
 use Rattle.rv_choice.specs.declared.choosing.Choice.{Choice}
 use Rattle.rv_choice.specs.Choice.{AreScans, IsChosen, candidates_of}
 use Rattle.rv_choice.specs.Leading.{front_begun, front_candidate, guarantee_of}
+use Rattle.rv_final.specs.Rest.{qualifying}
 use Rattle.rv_final.specs.Stage.{Unbegun}
 use Rattle.rv_scan.specs.Fronts.{Front}
-use Rattle.rv_retrieval.specs.Opens.{first_of}
-use Rattle.rv_retrieval.specs.Shape.{Shape, is_background}
+use Rattle.rv_scan.specs.Places.{work as pages_work}
+use Rattle.rv_retrieval.specs.Opens.{Opens, first_of}
+use Rattle.rv_retrieval.specs.Shape.{RetrievalFits, Shape, is_background, rest}
 use Rattle.rv_choice.specs.declared.choosing.Background.{Background}
 use Rattle.rv_choice.specs.declared.choosing.Background.TheVariants.{Nothing, One, Each, EachBut}
 use Rattle.rv_retrieval.specs.Telling.{events_for, index_of, list_len}
-use Rattle.rv_judge.specs.Tracing.{NothingCounted, noted, noted_all}
+use Rattle.rv_judge.specs.Tracing.{NothingCounted, new_trace, noted, noted_all}
 use Rattle.rv_retrieval.specs.Rulings.{gone, listed}
 
 -- whether a background scan is planned
@@ -47,6 +50,16 @@ pub record Begun (query : Query) (strategy : Strategy) (plans : List ScanPlan) (
   pub counts : NothingCounted v.trace
   pub borrowed : v.borrowed ≡ 0
   pub unbegun : Unbegun v.at v.last
+
+-- made of these parts, with an empty trace; over what a reader shows all that qualifies is still to be given
+pub record Made (query : Query) (strategy : Strategy) (plans : List ScanPlan) (foreground : Front)
+    (guaranteed cursor opening : ℕ) (v : Shape) : Type 0 where
+  pub begun : Begun query strategy plans foreground guaranteed cursor opening v
+  pub told : v.trace ≡ new_trace strategy
+  pub last : (rows : List Record) (pages : ℕ) → pages_work v.last rows pages ≡ length rows + pages
+  pub fits : (shown : Shown) → Opens query strategy plans foreground shown → RetrievalFits v shown
+  pub rest : (shown : Shown) → Opens query strategy plans foreground shown
+      → rest v shown ≡ qualifying query.only (shown.rows query.table query.snap)
 
 -- the first control, and the scan with which a background begins
 abbrev pub start_told : Shape → Trace

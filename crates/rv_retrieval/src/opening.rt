@@ -40,9 +40,11 @@ impl Retrieval {
     }
 
     /// A retrieval under a strategy, with these background scans and this scan of an index as the foreground, which is
-    /// used where the strategy is sorted or index-only. It has read nothing.
+    /// used where the strategy is sorted or index-only. It has read nothing. It takes the place of one that is over, where one is
+    /// given.
     fn begin(
         alloc: Global,
+        over: Option<Box<Retrieval>>,
         query: Query,
         strategy: Strategy,
         scans: Vec<ScanPlan>,
@@ -59,8 +61,8 @@ impl Retrieval {
         ensures unborrowed { IfOk result (λ r. r.value.borrowed ≡ 0) }
         ensures last { (rows : List OneRecord) (pages : ℕ) → IfOk result (λ r. pages_work r.value.last rows pages ≡ length rows + pages) }
     {
-        let mut retrieval = Retrieval::make(
-            alloc, query, strategy, scans, front, guaranteed, cursor, opening,
+        let mut retrieval = Retrieval::make_in(
+            alloc, over, query, strategy, scans, front, guaranteed, cursor, opening,
         )?;
         retrieval.tell_start();
         Ok(retrieval)
@@ -178,6 +180,7 @@ impl Retrieval {
     fn chosen<R: Reader>(
         alloc: Global,
         reader: &R,
+        over: Option<Box<Retrieval>>,
         query: Query,
         candidates: &[Candidate],
         choice: Choice,
@@ -207,6 +210,7 @@ impl Retrieval {
         let scans = match scans(alloc, &query.only, candidates, choice.background) {
             Ok(scans) => scans,
             Err(fault) => {
+                drop(over);
                 drop(query);
                 return Err(fault);
             }
@@ -215,6 +219,7 @@ impl Retrieval {
             Ok(front) => front,
             Err(fault) => {
                 drop(scans);
+                drop(over);
                 drop(query);
                 return Err(fault);
             }
@@ -222,6 +227,7 @@ impl Retrieval {
         let guaranteed = guarantee(reader, &query, candidates, choice);
         Retrieval::begin(
             alloc,
+            over,
             query,
             choice.strategy,
             scans,
@@ -232,10 +238,12 @@ impl Retrieval {
         )
     }
 
-    /// Opens a retrieval with what was chosen for a query, as `open` does.
+    /// Opens a retrieval with what was chosen for a query, as `open` does, in the place of one that is over, where one is
+    /// given.
     pub fn open_chosen<R: Reader>(
         alloc: Global,
         reader: &R,
+        over: Option<Box<Retrieval>>,
         query: Query,
         candidates: &[Candidate],
         choice: Choice,
@@ -262,7 +270,7 @@ impl Retrieval {
     {
         let before = steps.counts();
         let mut retrieval = Retrieval::chosen(
-            alloc, reader, query, candidates, choice, cursor, opening,
+            alloc, reader, over, query, candidates, choice, cursor, opening,
         )?;
         let made = &mut *retrieval;
         match made.settle(choice.background, reader, steps) {
@@ -315,6 +323,7 @@ impl Retrieval {
         let opened = Retrieval::open_chosen(
             alloc,
             reader,
+            None,
             query,
             candidates.as_slice(),
             choice,

@@ -4,7 +4,7 @@ ghost use Rattle.rv_keys.specs.Keys.{has_key};
 ghost use Rattle.rv_reader.specs.Shown.{Shown, CanRead};
 ghost use Rattle.rv_reader.specs.Tables.{row_at};
 ghost use Rattle.rv_scan.specs.Alongs.{Follows, looked};
-ghost use Rattle.rv_scan.specs.Places.{Fits as PlaceFits, PageReads, PageTurns, unseen, work as pages_work};
+ghost use Rattle.rv_scan.specs.Places.{Fits as PlaceFits, PageReads, PageTurns, unseen};
 ghost use Rattle.rv_scan.specs.Due.{HaveColumns};
 ghost use Rattle.rv_jscan.specs.Joint.{CanTake, JointFits, keys_of, leaves_ahead, under_way};
 ghost use Rattle.rv_jscan.specs.Steps.{Gives, Nearer, TakeLeaves, Takes, Works, abandoned, awaited_id, begun, counts_read, steps_read};
@@ -14,12 +14,12 @@ ghost use Rattle.rv_retrieval.specs.Accounts.{NextBorrowed, account_of};
 ghost use Rattle.rv_retrieval.specs.Fronts.{front_left};
 ghost use Rattle.rv_scan.specs.Fronts.{SameFront, walk_of, FrontMayRead, FrontReads};
 ghost use Rattle.rv_retrieval.specs.Given.{awaited, more_behind};
-ghost use Rattle.rv_retrieval.specs.Opened.{Begun, has_scans};
-ghost use Rattle.rv_retrieval.specs.Opens.{Opens, first_of};
+ghost use Rattle.rv_retrieval.specs.Opened.{Made, has_scans};
+ghost use Rattle.rv_retrieval.specs.Opens.{first_of};
 ghost use Rattle.rv_judge.specs.Runs.{Allowed};
-ghost use Rattle.rv_final.specs.Rest.{StepMarks, qualifying};
+ghost use Rattle.rv_final.specs.Rest.{StepMarks};
 ghost use Rattle.rv_retrieval.specs.Runs.{Tells, indexes_asked};
-ghost use Rattle.rv_retrieval.specs.Shape.{LeastOf, Remembers, RetrievalFits, Source, left_at, lending, front_entries, is_background, is_led, is_sorted, rest, rows_of};
+ghost use Rattle.rv_retrieval.specs.Shape.{LeastOf, Remembers, RetrievalFits, Source, left_at, lending, front_entries, is_background, is_led, is_sorted, rows_of};
 ghost use Rattle.rv_retrieval.specs.Room.{HasRoom, must_remember, rows_given};
 ghost use Rattle.rv_delivered.specs.Rows.{AddsRow};
 ghost use Rattle.rv_final.specs.Stage.{LastFits, PassesKeys, given_as};
@@ -30,7 +30,6 @@ ghost use Rattle.rv_retrieval.specs.Effort.{front_work, keys_work, table_work};
 ghost use Rattle.rv_final.specs.Work.{Falls, Tries};
 ghost use Rattle.rv_scan.specs.Reads.{OneAtMost};
 ghost use Rattle.rv_judge.specs.Counting.{record_read};
-ghost use Rattle.rv_value.specs.declared.record.Record.{Record as OneRecord};
 ghost use Rattle.rv_retrieval.specs.Short.{OnlyLeaves, scan_fetches};
 
 use rv_choice::Query;
@@ -44,6 +43,7 @@ use rv_scan::{Front, Scanned, Skip};
 use rv_value::{NoMemory, Record, RowNo};
 use std::alloc::Global;
 use std::marker::Model;
+use std::mem;
 
 /// The list that hides rows from a foreground's scan.
 fn hiding(strategy: Strategy, list: Option<&KeyList>) -> Option<&KeyList>
@@ -109,6 +109,17 @@ fn put(delivered: &mut Option<Delivered>, row: RowNo)
     }
 }
 
+/// Makes a trace one without events or reads.
+fn renew_trace(trace: &mut Trace, strategy: Strategy)
+    ensures { trace.new ≡ new_trace strategy }
+{
+    trace.strategy = strategy;
+    trace.events.clear();
+    trace.pages = 0;
+    trace.leaves = 0;
+    trace.fetches = 0;
+}
+
 /// A retrieval from one table at a snapshot.
 #[derive(Drop)]
 pub struct Retrieval {
@@ -144,12 +155,14 @@ impl Retrieval {
         self.control
     }
 
+    /// The strategy that was chosen at opening; no call changes it.
     pub(crate) fn strategy(&self) -> Strategy
         ensures { result ≡ self.now.strategy }
     {
         self.strategy
     }
 
+    /// Whether the background runs, with the foreground or alone.
     pub(crate) fn is_background(&self) -> bool
         ensures { result ≡ is_background self.now.control }
     {
@@ -171,12 +184,14 @@ impl Retrieval {
         }
     }
 
+    /// Changes which sides run, and writes no event: `go` does both.
     pub(crate) fn set_control(&mut self, control: Control)
         ensures { self.new ≡ record self.old { control = control } }
     {
         self.control = control;
     }
 
+    /// Whether the foreground has given a row. Under a strategy that remembers nothing it is false of each.
     pub(crate) fn was_delivered(&self, row: RowNo) -> bool
         ensures { result ≡ has_key row.0 self.now.delivered }
     {
@@ -209,6 +224,8 @@ impl Retrieval {
         )
     }
 
+    /// Whether a further scan begins once the one under way is over: one is planned, and the complete list, if any, has a
+    /// key.
     pub(crate) fn more_behind(&self) -> bool
         ensures { result ≡ more_behind self.now.joint }
     {
@@ -219,24 +236,28 @@ impl Retrieval {
             }
     }
 
+    /// Whether some scan's list is complete.
     pub(crate) fn is_listed(&self) -> bool
         ensures { result ≡ is_some self.now.joint.list }
     {
         self.joint.list().is_some()
     }
 
+    /// Whether a background scan has begun and not ended.
     pub(crate) fn is_under_way(&self) -> bool
         ensures { result ≡ under_way self.now.joint }
     {
         self.joint.awaited().is_some()
     }
 
+    /// How many of the planned background scans are over, completed or dropped.
     pub(crate) fn ended(&self) -> u32
         ensures { result ≡ self.now.joint.ended }
     {
         self.joint.ended()
     }
 
+    /// Gives a sieved piece to the joint scan alone: no judge is asked, and no event is written.
     pub(crate) fn give_joint(&mut self, sieved: Sieved) -> Result<Given, NoMemory>
         ensures same { self.new ≡ record self.old { joint = self.new.joint } }
         ensures given { IfOk result (λ g. Gives self.old.joint sieved g self.new.joint) }
@@ -247,6 +268,7 @@ impl Retrieval {
         self.joint.give(sieved)
     }
 
+    /// Takes the awaited piece of the joint scan.
     pub(crate) fn take_joint<R: Reader>(
         &mut self,
         reader: &R,
@@ -285,6 +307,7 @@ impl Retrieval {
         self.joint.step(reader, steps)
     }
 
+    /// Ends the scan under way without a list; the next planned one, if any, is under way then.
     pub(crate) fn drop_scan(&mut self)
         requires { under_way self.old.joint ≡ true }
         ensures same { self.new ≡ record self.old { joint = abandoned self.old.joint } }
@@ -309,6 +332,7 @@ impl Retrieval {
         }
     }
 
+    /// One step along the foreground's index. It counts what was read, and delivers nothing by itself.
     pub(crate) fn scan_front<R: Reader>(
         &mut self,
         reader: &R,
@@ -403,6 +427,7 @@ impl Retrieval {
         }
     }
 
+    /// Goes past the key of the list that was borrowed last.
     pub(crate) fn pass_borrowed(&mut self)
         requires { self.old.borrowed < 2 ^ 64 - 1 }
         ensures { self.new ≡ record self.old { borrowed = self.old.borrowed + 1 } }
@@ -410,6 +435,7 @@ impl Retrieval {
         self.borrowed += 1;
     }
 
+    /// Keeps the number of a delivered row, so that no final stage gives it again.
     pub(crate) fn remember(&mut self, row: RowNo)
         requires strategy { must_remember self.old.strategy ≡ true }
         requires room { length self.old.delivered < 1024 }
@@ -429,6 +455,7 @@ impl Retrieval {
         }
     }
 
+    /// Whether no further row can be remembered; never under a strategy that remembers nothing.
     pub(crate) fn is_full(&self) -> bool
         ensures full { result ≡ (length self.now.delivered == 1024) }
         ensures most { length self.now.delivered ≤ 1024 }
@@ -469,7 +496,7 @@ impl Retrieval {
     /// A retrieval under a strategy, with these background scans and this scan of an index as the foreground, which is
     /// used where the strategy is sorted or index-only. It has read nothing, and nothing stands in its trace. It is put into a
     /// box at once, since it is large and goes through many hands.
-    pub(crate) fn make(
+    fn make(
         alloc: Global,
         query: Query,
         strategy: Strategy,
@@ -480,12 +507,7 @@ impl Retrieval {
         opening: u64,
     ) -> Result<Box<Retrieval>, NoMemory>
         requires { length scans.items ≤ 8 }
-        ensures begun { IfOk result (λ r. Begun query strategy scans.items front guaranteed cursor opening r.value) }
-        ensures told { IfOk result (λ r. r.value.trace ≡ new_trace strategy) }
-        ensures fits { (shown : Shown) → Opens query strategy scans.items front shown → IfOk result (λ r. RetrievalFits r.value shown) }
-        ensures rest { (shown : Shown) → Opens query strategy scans.items front shown → IfOk result (λ r. rest r.value shown ≡ qualifying query.only (shown.rows query.table query.snap)) }
-        ensures unborrowed { IfOk result (λ r. r.value.borrowed ≡ 0) }
-        ensures last { (rows : List OneRecord) (pages : ℕ) → IfOk result (λ r. pages_work r.value.last rows pages ≡ length rows + pages) }
+        ensures { IfOk result (λ r. Made query strategy scans.items front guaranteed cursor opening r.value) }
     {
         let delivered = match room(alloc, strategy) {
             Ok(delivered) => delivered,
@@ -515,6 +537,94 @@ impl Retrieval {
         };
         let boxed = Box::new(alloc, retrieval)?;
         Ok(boxed)
+    }
+
+    /// Begins anew in the place of a retrieval that is over, as `make` makes it. On `NoMemory` it is of no more use.
+    fn renew(
+        &mut self,
+        query: Query,
+        strategy: Strategy,
+        scans: Vec<ScanPlan>,
+        front: Front,
+        guaranteed: u64,
+        cursor: u64,
+        opening: u64,
+    ) -> Result<(), NoMemory>
+        requires { length scans.items ≤ 8 }
+        ensures { OnOk result (Made query strategy scans.items front guaranteed cursor opening self.new) }
+    {
+        let delivered = match room(self.alloc, strategy) {
+            Ok(delivered) => delivered,
+            Err(fault) => {
+                drop(query);
+                drop(scans);
+                drop(front);
+                return Err(fault);
+            }
+        };
+        self.control = first_control(strategy, has_scans(scans.as_slice()));
+        let ending = Final::new(self.alloc, query.table, query.snap);
+        self.joint
+            .renew(query.table, query.snap, scans, cursor, opening);
+        drop(mem::replace(&mut self.ending, ending));
+        drop(mem::replace(&mut self.query, query));
+        drop(mem::replace(&mut self.front, front));
+        drop(mem::replace(&mut self.delivered, delivered));
+        self.strategy = strategy;
+        self.borrowed = 0;
+        self.guaranteed = guaranteed;
+        renew_trace(&mut self.trace, strategy);
+        Ok(())
+    }
+
+    /// As `make`, in the box of a retrieval that is over.
+    fn make_over(
+        over: Box<Retrieval>,
+        query: Query,
+        strategy: Strategy,
+        scans: Vec<ScanPlan>,
+        front: Front,
+        guaranteed: u64,
+        cursor: u64,
+        opening: u64,
+    ) -> Result<Box<Retrieval>, NoMemory>
+        requires { length scans.items ≤ 8 }
+        ensures { IfOk result (λ r. Made query strategy scans.items front guaranteed cursor opening r.value) }
+    {
+        let mut boxed = over;
+        let made = &mut *boxed;
+        match made.renew(query, strategy, scans, front, guaranteed, cursor, opening) {
+            Ok(()) => Ok(boxed),
+            Err(fault) => {
+                drop(boxed);
+                Err(fault)
+            }
+        }
+    }
+
+    /// As `make`, in the box of a retrieval that is over, where there is one.
+    pub(crate) fn make_in(
+        alloc: Global,
+        over: Option<Box<Retrieval>>,
+        query: Query,
+        strategy: Strategy,
+        scans: Vec<ScanPlan>,
+        front: Front,
+        guaranteed: u64,
+        cursor: u64,
+        opening: u64,
+    ) -> Result<Box<Retrieval>, NoMemory>
+        requires { length scans.items ≤ 8 }
+        ensures { IfOk result (λ r. Made query strategy scans.items front guaranteed cursor opening r.value) }
+    {
+        match over {
+            Some(over) => Retrieval::make_over(
+                over, query, strategy, scans, front, guaranteed, cursor, opening,
+            ),
+            None => Retrieval::make(
+                alloc, query, strategy, scans, front, guaranteed, cursor, opening,
+            ),
+        }
     }
 
     /// Writes an event into the trace.

@@ -55,6 +55,7 @@ impl Model for Walk {
 }
 
 impl Walk {
+    /// A walk before its first leaf. It reads nothing and takes no memory.
     pub fn new(alloc: Global, index: u32, snap: u64, range: Range) -> Walk
         ensures { result ≡ record { index = index; snap = snap; range = range; ahead = First; held = [] } }
     {

@@ -31,6 +31,8 @@ impl Model for Front {
 }
 
 impl Front {
+    /// A foreground before its first step: along an index `alone`, by what the entries have, or by the records that they
+    /// name.
     pub fn new(alone: bool, columns: Items<u32>, fetching: Fscan) -> Front
         ensures { result ≡ record { alone = alone; columns = columns; fetching = fetching; telling = fetching.walk } }
     {

@@ -1,6 +1,7 @@
 //! Scripts, which a run reads, and transcripts, which it writes.
 #![tactic(auto)]
 
+mod packing;
 pub mod scripts;
 pub mod traces;
 pub mod transcript;

@@ -2,27 +2,46 @@ ghost use Rattle.std.specs.Prelude.{◌≡◌, ◌++◌, ◌∷◌, [], codes, d
 ghost use Rattle.rv_io.specs.Pieces.{Goes};
 ghost use Rattle.rv_model.specs.Transcript.{text, entry_text, reply_text, refusal_text, rival_text, limit_word};
 
+use crate::packing::{PACKED, pack_entry};
 use crate::traces::write_trace;
 use crate::values::write_row;
+use arrayvec::ArrayVec;
 use itoa::Buffer;
 use rv_io::{Failed, Sink, write_next};
 use rv_model::{Entry, Refusal, Reply, Rival, Which, limit_word};
 
 /// Appends the transcript of entries: two lines for each, the session's number, a space and the text as
-/// given, then `= ` and the text of the reply. Each line takes at least one write. After a write that
+/// given, then `= ` and the text of the reply. Each entry takes at least one write. After a write that
 /// failed there is no further one.
 pub fn write_text<K: Sink>(sink: &mut K, entries: &[Entry]) -> Result<(), Failed>
     ensures { Goes (Ok tt) (K.written sink.old) (K.written sink.new) (K.faults sink.old) (K.faults sink.new) result (text entries.now) }
 {
+    let mut packed = ArrayVec::new();
     let mut sofar = Ok(());
     'entries: for entry in entries {
-        sofar = write_entry(sink, sofar, entry);
+        sofar = write_entry(sink, sofar, entry, &mut packed);
     }
     sofar
 }
 
-/// An entry's two lines.
+/// An entry's two lines, at once where they can be put together in the room for that.
 fn write_entry<K: Sink>(
+    sink: &mut K,
+    sofar: Result<(), Failed>,
+    entry: &Entry,
+    packed: &mut ArrayVec<u8, PACKED>,
+) -> Result<(), Failed>
+    ensures { Goes sofar (K.written sink.old) (K.written sink.new) (K.faults sink.old) (K.faults sink.new) result (entry_text entry.now) }
+{
+    if pack_entry(packed, entry) {
+        write_next(sink, sofar, packed.as_slice())
+    } else {
+        write_pieces(sink, sofar, entry)
+    }
+}
+
+/// An entry's two lines, piece by piece.
+fn write_pieces<K: Sink>(
     sink: &mut K,
     sofar: Result<(), Failed>,
     entry: &Entry,
@@ -85,7 +104,7 @@ fn write_reply<K: Sink>(
         Reply::Closed => write_next(sink, sofar, b"closed"),
         Reply::Stepped(count) => write_number(sink, sofar, b"stepped ", *count),
         Reply::Trace(shown) => write_trace(sink, sofar, shown.get()),
-        Reply::Refused(refusal) => write_refusal(sink, sofar, refusal),
+        Reply::Refused(refusal) => write_refusal(sink, sofar, refusal.get()),
     }
 }
 

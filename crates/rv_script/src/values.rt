@@ -102,7 +102,7 @@ fn write_doubled<K: Sink>(
 }
 
 /// The place of the first quote.
-fn first_quote(bytes: &[u8]) -> Option<usize>
+pub(crate) fn first_quote(bytes: &[u8]) -> Option<usize>
     ensures { result ≡ position (λ c. c == 39) bytes.now }
 {
     bytes.iter().position(|byte| *byte == b'\'')

@@ -14,6 +14,7 @@ pub(crate) struct Bell {
 }
 
 impl Bell {
+    /// A bell that was never rung, on which nobody rests.
     pub(crate) fn new() -> Bell {
         Bell {
             rings: AtomicU64::new(0),

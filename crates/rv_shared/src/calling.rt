@@ -22,6 +22,7 @@ pub(crate) struct StepTurn<'a> {
 }
 
 impl<'a> StepTurn<'a> {
+    /// What a turn has to do for one part of a call, before the turn comes.
     pub(crate) fn new(session: u8, text: &'a str) -> StepTurn<'a>
         requires session { (1 ≤ session) × (session ≤ 8) }
         requires short { length text.now ≤ 4096 }
@@ -66,6 +67,7 @@ pub(crate) struct CallTurn<'a> {
 }
 
 impl<'a> CallTurn<'a> {
+    /// What a turn has to do for a whole call, before the turn comes.
     pub(crate) fn new(session: u8, text: &'a str) -> CallTurn<'a>
         requires session { (1 ≤ session) × (session ≤ 8) }
         requires short { length text.now ≤ 4096 }

@@ -12,6 +12,7 @@ pub enum Place {
 /// What threads pass at a place. A gate may hold a thread there, which holds up no other's turn.
 /// It has to return: a phase ends when all its threads have.
 pub trait Gate {
+    /// A thread comes to a place, outside its turn; it goes on when this returns.
     fn at(&self, place: Place);
 }
 

@@ -1,6 +1,7 @@
 //! Replies, read.
 ghost use Rattle.std.specs.Prelude.{◌≡◌, Some, None, IfOk, bytes_eq, codes, find, option_map};
 ghost use Rattle.std.specs.Option.{option_copied};
+ghost use Rattle.rv_lang.specs.declared.reply.Reply.TheVariants.{Refused};
 ghost use Rattle.rv_model.specs.Transcript.{limit_word};
 ghost use Rattle.rv_text.specs.Pairs.{duplicate_by, limit_by, pair_by};
 ghost use Rattle.rv_text.specs.Replies.{after, duplicate_at, limit_at, lone_at, named_at, name_behind, numbered_at, number_behind, paired_at, pair_at, read_behind, reply_at, rival_at, row_at, shown_at};
@@ -65,63 +66,71 @@ fn name_behind<'a>(word: &[u8], text: &'a [u8]) -> Option<&'a str>
     }
 }
 
+/// A refusal, as the reply that was read.
+fn refused(alloc: Global, refusal: Refusal) -> Result<Option<Reply>, NoMemory>
+    ensures { IfOk result (λ o. o ≡ Some (Refused refusal)) }
+{
+    let reply = Reply::refused(alloc, refusal)?;
+    Ok(Some(reply))
+}
+
 /// A reply that is always the same words.
-fn lone(text: &[u8]) -> Option<Reply>
-    ensures { result ≡ lone_at text.now }
+fn lone(alloc: Global, text: &[u8]) -> Result<Option<Reply>, NoMemory>
+    ensures { IfOk result (λ o. o ≡ lone_at text.now) }
 {
     if text == b"created".as_slice() {
-        return Some(Reply::Created);
+        return Ok(Some(Reply::Created));
     }
     if text == b"rolled back".as_slice() {
-        return Some(Reply::RolledBack);
+        return Ok(Some(Reply::RolledBack));
     }
     if text == b"opened".as_slice() {
-        return Some(Reply::Opened);
+        return Ok(Some(Reply::Opened));
     }
     if text == b"end".as_slice() {
-        return Some(Reply::End);
+        return Ok(Some(Reply::End));
     }
     if text == b"closed".as_slice() {
-        return Some(Reply::Closed);
+        return Ok(Some(Reply::Closed));
     }
     if text == b"syntax".as_slice() {
-        return Some(Reply::Refused(Refusal::Syntax));
+        return refused(alloc, Refusal::Syntax);
     }
     if text == b"no transaction".as_slice() {
-        return Some(Reply::Refused(Refusal::NoTransaction));
+        return refused(alloc, Refusal::NoTransaction);
     }
     if text == b"read only".as_slice() {
-        return Some(Reply::Refused(Refusal::ReadOnly));
+        return refused(alloc, Refusal::ReadOnly);
     }
-    None
+    Ok(None)
 }
 
 /// A reply of a word and a number.
-fn numbered(text: &[u8]) -> Option<Reply>
-    ensures { result ≡ numbered_at text.now }
+fn numbered(alloc: Global, text: &[u8]) -> Result<Option<Reply>, NoMemory>
+    ensures { IfOk result (λ o. o ≡ numbered_at text.now) }
 {
     if let Some(number) = number_behind(b"began ", text) {
-        return Some(Reply::Began(number));
+        return Ok(Some(Reply::Began(number)));
     }
     if let Some(row) = number_behind(b"inserted ", text) {
-        return Some(Reply::Inserted(RowNo(row)));
+        return Ok(Some(Reply::Inserted(RowNo(row))));
     }
     if let Some(count) = number_behind(b"touched ", text) {
-        return Some(Reply::Touched(count));
+        return Ok(Some(Reply::Touched(count)));
     }
     if let Some(number) = number_behind(b"committed ", text) {
-        return Some(Reply::Committed(number));
+        return Ok(Some(Reply::Committed(number)));
     }
     if let Some(count) = number_behind(b"stepped ", text) {
-        return Some(Reply::Stepped(count));
+        return Ok(Some(Reply::Stepped(count)));
     }
     if let Some(txn) = number_behind(b"active ", text) {
-        return Some(Reply::Refused(Refusal::Active(txn)));
+        return refused(alloc, Refusal::Active(txn));
     }
     if let Some(txn) = number_behind(b"busy ", text) {
-        return Some(Reply::Refused(Refusal::Busy(txn)));
+        return refused(alloc, Refusal::Busy(txn));
     }
-    None
+    Ok(None)
 }
 
 /// A refusal of words and a name.
@@ -130,23 +139,23 @@ fn named(alloc: Global, text: &[u8]) -> Result<Option<Reply>, NoMemory>
 {
     if let Some(name) = name_behind(b"unknown ", text) {
         let name = Text::read(alloc, name)?;
-        return Ok(Some(Reply::Refused(Refusal::Unknown(name))));
+        return refused(alloc, Refusal::Unknown(name));
     }
     if let Some(name) = name_behind(b"exists ", text) {
         let name = Text::read(alloc, name)?;
-        return Ok(Some(Reply::Refused(Refusal::Exists(name))));
+        return refused(alloc, Refusal::Exists(name));
     }
     if let Some(name) = name_behind(b"kind ", text) {
         let name = Text::read(alloc, name)?;
-        return Ok(Some(Reply::Refused(Refusal::Kind(name))));
+        return refused(alloc, Refusal::Kind(name));
     }
     if let Some(name) = name_behind(b"no cursor ", text) {
         let name = Text::read(alloc, name)?;
-        return Ok(Some(Reply::Refused(Refusal::NoCursor(name))));
+        return refused(alloc, Refusal::NoCursor(name));
     }
     if let Some(name) = name_behind(b"cursor open ", text) {
         let name = Text::read(alloc, name)?;
-        return Ok(Some(Reply::Refused(Refusal::CursorOpen(name))));
+        return refused(alloc, Refusal::CursorOpen(name));
     }
     Ok(None)
 }
@@ -254,34 +263,43 @@ fn duplicate_behind(text: &[u8]) -> Option<(u64, Rival)>
 }
 
 /// A refusal of a word and two things.
-fn paired(text: &[u8]) -> Option<Reply>
-    ensures { result ≡ paired_at text.now }
+fn paired(alloc: Global, text: &[u8]) -> Result<Option<Reply>, NoMemory>
+    ensures { IfOk result (λ o. o ≡ paired_at text.now) }
 {
     if let Some((row, commit)) = pair_behind(b"changed ", text) {
-        return Some(Reply::Refused(Refusal::Changed {
-            row: RowNo(row),
-            commit,
-        }));
+        return refused(
+            alloc,
+            Refusal::Changed {
+                row: RowNo(row),
+                commit,
+            },
+        );
     }
     if let Some((row, txn)) = pair_behind(b"held ", text) {
-        return Some(Reply::Refused(Refusal::Held {
-            row: RowNo(row),
-            txn,
-        }));
+        return refused(
+            alloc,
+            Refusal::Held {
+                row: RowNo(row),
+                txn,
+            },
+        );
     }
     if let Some((which, number)) = limit_behind(text) {
-        return Some(Reply::Refused(Refusal::Limit { which, number }));
+        return refused(alloc, Refusal::Limit { which, number });
     }
     if let Some((row, by)) = duplicate_behind(text) {
-        return Some(Reply::Refused(Refusal::Duplicate {
-            row: RowNo(row),
-            by,
-        }));
+        return refused(
+            alloc,
+            Refusal::Duplicate {
+                row: RowNo(row),
+                by,
+            },
+        );
     }
-    None
+    Ok(None)
 }
 
-/// A row.
+/// A reply that is a row: `row ` and its values.
 fn row(alloc: Global, text: &[u8]) -> Result<Option<Reply>, NoMemory>
     ensures { IfOk result (λ o. o ≡ row_at text.now) }
 {
@@ -314,10 +332,10 @@ fn shown(alloc: Global, text: &[u8]) -> Result<Option<Reply>, NoMemory>
 pub fn reply(alloc: Global, text: &[u8]) -> Result<Option<Reply>, NoMemory>
     ensures { IfOk result (λ o. o ≡ reply_at text.now) }
 {
-    if let Some(reply) = lone(text) {
+    if let Some(reply) = lone(alloc, text)? {
         return Ok(Some(reply));
     }
-    if let Some(reply) = numbered(text) {
+    if let Some(reply) = numbered(alloc, text)? {
         return Ok(Some(reply));
     }
     if let Some(reply) = row(alloc, text)? {
@@ -326,7 +344,7 @@ pub fn reply(alloc: Global, text: &[u8]) -> Result<Option<Reply>, NoMemory>
     if let Some(reply) = named(alloc, text)? {
         return Ok(Some(reply));
     }
-    if let Some(reply) = paired(text) {
+    if let Some(reply) = paired(alloc, text)? {
         return Ok(Some(reply));
     }
     shown(alloc, text)

@@ -118,7 +118,7 @@ fn quoted_text(alloc: Global, bytes: &[u8]) -> Result<Option<Value>, NoMemory>
     }
 }
 
-/// An integer as a value.
+/// The value that digits are, with a sign or without.
 fn integer_value(digits: &[u8]) -> Option<Value>
     ensures { result ≡ integer_of (integer_at digits.now) }
 {

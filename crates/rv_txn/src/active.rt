@@ -63,6 +63,7 @@ pub fn writer(active: &Items<Transaction>, session: u8) -> Result<usize, Refusal
     Ok(own)
 }
 
+/// The refusal of what would pass a limit; the number is that limit.
 pub fn limit(which: Which, number: u64) -> Refusal
     ensures { result ≡ Limit which number }
 {

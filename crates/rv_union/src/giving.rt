@@ -183,6 +183,8 @@ impl Union {
         Ok(())
     }
 
+    /// Takes a sieved piece back: `Stale`, and nothing changes, where it is not the awaited one; else the judge is asked
+    /// and obeyed, but for a member's last piece.
     pub(crate) fn give_piece(
         &mut self,
         sieved: Sieved,

@@ -50,7 +50,7 @@ impl Union {
         }
     }
 
-    /// A step of the list.
+    /// A step of the final stage over the list that the members made.
     fn list_step<R: Reader>(
         &mut self,
         reader: &R,

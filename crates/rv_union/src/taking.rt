@@ -35,6 +35,8 @@ impl Union {
         self.take_lane(id, reader, steps)
     }
 
+    /// Takes a copy of the awaited piece; `Nothing` where no member is scanned. The leaf is read at the first take, and
+    /// after one that found no memory.
     pub(crate) fn take_piece<R: Reader>(
         &mut self,
         reader: &R,

@@ -239,6 +239,7 @@ impl Union {
         }
     }
 
+    /// The id of the next piece, whichever member it is of: pieces are numbered through the union.
     pub(crate) fn next_id(&self) -> PieceId
         ensures { result ≡ next_id self.now }
     {
@@ -437,7 +438,8 @@ impl Union {
         self.lane.building().len()
     }
 
-    /// Counts a piece.
+    /// Counts what was scanned and kept of a piece into the present member, and numbers the next piece. Counts stop at the
+    /// greatest number.
     pub(crate) fn count_piece(&mut self, entries: u64, kept: u64, listed: bool)
         ensures { self.new ≡ record self.old { count = piece_counted self.old.count entries kept listed; number = one_more self.old.number } }
     {

@@ -73,11 +73,11 @@ then_equal Less = refl
 then_equal Equal = refl
 then_equal Greater = refl
 
-pub numbers_prefix : (a b : List Value) (x y : ℤ) → a ≡ Int x ∷ [] → b ≡ Int y ∷ [] → int_cmp x y ≡ prefix_cmp a b
-numbers_prefix a b x y is other = rw (is, other) (sym (then_equal (int_cmp x y)))
+pub numbers_prefix : (x y : ℤ) → int_cmp x y ≡ prefix_cmp (Int x ∷ []) (Int y ∷ [])
+numbers_prefix x y = sym (then_equal (int_cmp x y))
 
-pub numbers_whole : (a b : List Value) (x y : ℤ) → a ≡ Int x ∷ [] → b ≡ Int y ∷ [] → int_cmp x y ≡ values_cmp a b
-numbers_whole a b x y is other = rw (is, other) (sym (then_equal (int_cmp x y)))
+pub numbers_whole : (x y : ℤ) → int_cmp x y ≡ values_cmp (Int x ∷ []) (Int y ∷ [])
+numbers_whole x y = sym (then_equal (int_cmp x y))
 
 pub value_itself : (v : Value) → value_cmp v v ≡ Equal
 value_itself v = tied_itself value_cmp_total v

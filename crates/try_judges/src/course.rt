@@ -68,6 +68,7 @@ fn write_control(rt: &HostRuntime, strategy: Strategy, now: Control) -> io::Resu
     write_scan(rt, strategy, now, true, true)
 }
 
+/// Writes what follows each happening, for every strategy and control.
 pub fn write_all(rt: &HostRuntime) -> io::Result<()> {
     'strategies: for strategy in STRATEGIES {
         'controls: for now in CONTROLS {

@@ -14,6 +14,7 @@ const SCANS: [[u64; 3]; 7] = [
     [u64::MAX, 1, u64::MAX],
 ];
 
+/// Writes the projected cost of scans that are under way, where there are not more entries scanned than in all.
 pub fn write_projections(rt: &HostRuntime) -> io::Result<()> {
     'scans: for [total, scanned, kept] in SCANS {
         if scanned <= total {
@@ -116,6 +117,7 @@ fn write_judge<J: Judge>(rt: &HostRuntime, name: &str, judge: &mut J) -> io::Res
     Ok(())
 }
 
+/// Writes what follows each happening, for every strategy and control.
 pub fn write_all(rt: &HostRuntime) -> io::Result<()> {
     write_judge(rt, "threshold", &mut Threshold::new())?;
     write_judge(rt, "patient", &mut Patient::new())?;

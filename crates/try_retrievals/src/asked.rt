@@ -235,7 +235,7 @@ fn order(alloc: Global, asked: &Asked, indexes: &[(u32, Items<u32>)]) -> Result<
     }
 }
 
-/// The query.
+/// The query that a line asks over the loaded table.
 pub fn query(alloc: Global, table: &Table, asked: &Asked) -> Result<Query, Fault>
     ensures query { IfOk result (IsQuery table.now.loaded asked.now) }
     ensures can { (shown : Shown) → Stands shown table.now → IfOk result (λ query. CanAsk query shown) }

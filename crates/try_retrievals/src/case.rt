@@ -11,7 +11,7 @@ use crate::drive::{Driven, Way, drive};
 use crate::judges::{Ruling, verdicts};
 use crate::lines::{numbers, rows_text};
 use crate::load::Table;
-use rv_access::Access;
+use rv_access::{Access, Over};
 use rv_judge::{Contrary, Judge, Listed, Patient, Steps, Threshold, Uncounted};
 use rv_loading::{Fault, trace_text};
 use rv_reader::Reader;
@@ -67,7 +67,16 @@ fn retrieve<R: Reader<Ledger = Uncounted>>(
     };
     let query = query(alloc, table, asked)?;
     let mut steps = Steps::new(Uncounted);
-    let mut access = Access::open(alloc, reader, query, asked.race, 1, 1, &mut steps)?;
+    let mut access = Access::open(
+        alloc,
+        reader,
+        &mut Over::new(),
+        query,
+        asked.race,
+        1,
+        1,
+        &mut steps,
+    )?;
     match drive(alloc, reader, &mut access, &mut judge, way, &mut steps) {
         Ok(driven) => Ok((driven, access)),
         Err(NoMemory) => {

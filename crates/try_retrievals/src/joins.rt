@@ -13,7 +13,7 @@ use crate::joins::case::answer;
 use rv_loading::told_or_fault;
 use std::io;
 
-/// Writes all of it.
+/// Answers each line of the input.
 pub fn write(rt: &HostRuntime) -> io::Result<()> {
     'lines: for line in rt.lines(rt.alloc()) {
         let line = line?;

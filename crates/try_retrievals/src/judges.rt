@@ -24,6 +24,7 @@ pub enum Ruling {
 }
 
 impl Ruling {
+    /// Its words on a line of what is written.
     pub fn name(self) -> &'static str {
         match self {
             Ruling::Threshold => "threshold",
@@ -77,6 +78,7 @@ pub enum Pace {
 }
 
 impl Pace {
+    /// Its words on a line of what is written.
     pub fn name(self) -> &'static str {
         match self {
             Pace::NoStep => "no step",
@@ -89,6 +91,7 @@ impl Pace {
         }
     }
 
+    /// When it makes background steps, how late it gives a piece back, and how often.
     pub fn way(self) -> Way {
         match self {
             Pace::NoStep => paced(0, 0, 1),

@@ -199,7 +199,8 @@ fn elsewhere<S: Store + Reader<Ledger = Uncounted> + Drop>(
     Ok(two && early && taken && accepted && rows)
 }
 
-/// Whether they are taken so.
+/// Whether a piece is known by its id and its entries, not by who handed it out: another core refuses it until it has
+/// handed out its own.
 fn is_taken_elsewhere(alloc: Global) -> Result<bool, NoMemory> {
     let mut here = patient(alloc)?;
     match patient(alloc) {

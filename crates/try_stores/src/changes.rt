@@ -135,6 +135,7 @@ fn act_all(alloc: Global, told: &mut Told, changes: &mut Changes, text: &str) ->
     Ok(tell_last(alloc, told, changes, deletion(last)?)?)
 }
 
+/// Tells what a line's acts lead to; a fault where the line is not one. What they act on goes at one exit.
 pub fn tell(alloc: Global, told: &mut Told, text: &str) -> Result<(), Fault> {
     let mut changes = Changes::new(alloc);
     let done = act_all(alloc, told, &mut changes, text);

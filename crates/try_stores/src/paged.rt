@@ -202,7 +202,7 @@ fn tell_all(alloc: Global, told: &mut Told, run: &mut Run) -> Result<(), Fault>
     Ok(tell_indexes(alloc, told, &run.twins)?)
 }
 
-/// Tells all of it.
+/// Tells all lines of this part of the program.
 pub fn tell(alloc: Global, told: &mut Told) -> Result<(), Fault> {
     let mut run = Run {
         twins: Twins::new(alloc)?,

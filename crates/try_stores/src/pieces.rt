@@ -29,7 +29,7 @@ fn tell_over<S: Store + Reader<Ledger = Uncounted>>(
     Ok(tell_table(alloc, told, store, snap)?)
 }
 
-/// Tells all of it.
+/// Tells all lines of this part of the program.
 pub fn tell(alloc: Global, told: &mut Told) -> Result<(), Fault> {
     let mut store = Plain::new(alloc)?;
     let done = tell_over(alloc, told, &mut store);

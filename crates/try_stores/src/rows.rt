@@ -57,6 +57,7 @@ fn tell_both(told: &mut Told, rows: &Rows, copy: &Rows) {
     tell_numbers(told, copy.as_slice());
 }
 
+/// Tells what a line's acts lead to; a fault where the line is not one. What they act on goes at one exit.
 pub fn tell(alloc: Global, told: &mut Told, text: &str) -> Result<(), Fault> {
     let mut rows = Rows::new(alloc);
     let mut copy = Rows::new(alloc);

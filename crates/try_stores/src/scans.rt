@@ -153,7 +153,7 @@ fn tell_plain(alloc: Global, told: &mut Told) -> Result<(), Fault> {
     done
 }
 
-/// Tells all of it.
+/// Tells all lines of this part of the program.
 pub fn tell(alloc: Global, told: &mut Told) -> Result<(), Fault> {
     tell_plain(alloc, told)?;
     tell_refusals(alloc, told)

@@ -10,6 +10,7 @@ pub struct Told {
 }
 
 impl Told {
+    /// Nothing told yet, and nothing lost.
     pub fn new(alloc: Global) -> Told {
         Told {
             text: String::new(alloc),
@@ -17,18 +18,21 @@ impl Told {
         }
     }
 
+    /// Adds a word. Want of memory is noted, and asked for at the end alone.
     pub fn word(&mut self, word: &str) {
         if self.text.push_str(word).is_err() {
             self.is_whole = false;
         }
     }
 
+    /// Adds a number in decimal digits, with want of memory as `word`.
     pub fn number(&mut self, number: u64) {
         if write!(self.text, "{number}").is_err() {
             self.is_whole = false;
         }
     }
 
+    /// Adds an integer in decimal digits, with want of memory as `word`.
     pub fn integer(&mut self, number: i64) {
         if write!(self.text, "{number}").is_err() {
             self.is_whole = false;

@@ -72,7 +72,7 @@ fn tell_tree(alloc: Global, told: &mut Told, count: u32) -> Result<(), NoMemory>
     done
 }
 
-/// Tells all of it.
+/// Tells all lines of this part of the program.
 pub fn tell(alloc: Global, told: &mut Told) -> Result<(), Fault> {
     'counts: for count in [40, 1_100, 20_000] {
         tell_tree(alloc, told, count)?;

@@ -44,7 +44,7 @@ fn write_words(versions: &mut Versions<u64>, newest: u64, text: &str) -> Result<
     write(versions, newest, small(id)?, commit, value)
 }
 
-/// Tells of a number, where there is one.
+/// Tells a number that was found, or that there is none.
 fn tell_number(told: &mut Told, found: Option<u64>) {
     match found {
         Some(found) => told.with(" ", found),

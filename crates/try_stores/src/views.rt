@@ -7,7 +7,7 @@ use crate::told::Told;
 use rv_loading::Fault;
 use std::alloc::Global;
 
-/// Tells all of it.
+/// Tells all lines of this part of the program.
 pub fn tell(alloc: Global, told: &mut Told) -> Result<(), Fault> {
     lists::tell(alloc, told)?;
     reading::tell(alloc, told)

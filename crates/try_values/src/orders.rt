@@ -4,6 +4,7 @@ use rv_value::{IndexEntry, Key, NoMemory, RowNo, Value, cmp_key, cmp_value, copy
 use std::alloc::Global;
 use std::cmp::Ordering;
 
+/// The word of a test on a line.
 pub fn yes_or_no(is: bool) -> &'static str {
     if is { "yes" } else { "no" }
 }
@@ -42,6 +43,7 @@ fn keyed(alloc: Global, values: Vec<Value>) -> Result<Key, Fault> {
     Ok(Key::of(alloc, values)?)
 }
 
+/// The key that a line's values make.
 pub fn key(alloc: Global, text: &str) -> Result<Key, Fault> {
     keyed(alloc, values(alloc, text)?)
 }

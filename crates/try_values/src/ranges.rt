@@ -4,6 +4,7 @@ use rv_loading::{Fault, cut};
 use rv_value::{Bound, Duplicate, Key, NoMemory, Range, Side, Value};
 use std::alloc::Global;
 
+/// The word on a line for where a value lies beside a range.
 pub fn side_word(side: Side) -> &'static str {
     match side {
         Side::Before => "before",

@@ -48,6 +48,7 @@ pub fn read_line(line: &str) -> Result<Asked<'_>, Fault> {
     })
 }
 
+/// The goal that a word names: rows soon, or the least total time.
 pub fn goal(word: &str) -> Result<Goal, Fault> {
     match word {
         "soon" => Ok(Goal::FastFirst),

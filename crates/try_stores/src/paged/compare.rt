@@ -43,6 +43,7 @@ pub struct Tally {
 }
 
 impl Tally {
+    /// Nothing compared yet, and no difference found.
     pub fn new() -> Tally {
         Tally {
             snapshots: 0,

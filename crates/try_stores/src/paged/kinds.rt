@@ -18,6 +18,7 @@ pub struct Kinds {
 }
 
 impl Kinds {
+    /// No change seen yet.
     pub fn new() -> Kinds {
         Kinds {
             inserts: 0,

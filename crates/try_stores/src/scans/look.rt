@@ -60,6 +60,7 @@ fn wanted(alloc: Global) -> Result<Restriction, NoMemory>
     Ok(Restriction::from_groups(groups))
 }
 
+/// The rows that a scan of the table's pages gives.
 pub fn look_by_pages<S: Store>(
     alloc: Global,
     store: &S,
@@ -75,6 +76,7 @@ pub fn look_by_pages<S: Store>(
     by_pages(alloc, store, 0, loaded.snap, only, skip, steps)
 }
 
+/// The rows that a scan of an index gives by its entries alone.
 pub fn look_by_keys<S: Store>(
     alloc: Global,
     store: &S,
@@ -101,6 +103,7 @@ pub fn look_by_keys<S: Store>(
     )
 }
 
+/// The rows that a scan of an index gives by the records that its entries name.
 pub fn look_by_fetches<S: Store>(
     alloc: Global,
     store: &S,

@@ -5,3 +5,6 @@ returns-in-RolledBack g c = rw c.in-RolledBack.is c.write_next-in-RolledBack.ens
 
 pub returns-in-Trace : goal.returns-in-Trace
 returns-in-Trace g c = rw c.in-Trace.is (rw c.get.ensures at c.write_trace.ensures)
+
+pub returns-in-Refused : goal.returns-in-Refused
+returns-in-Refused g c = rw c.in-Refused.is (rw c.get-in-Refused.ensures at c.write_refusal.ensures)

@@ -13,7 +13,7 @@ pub returns-clause-fits : goal.returns-clause-fits
 returns-clause-fits g c = rw (c.new-gathered.ensures, c.in_ok-stage.ensures) (record {
   holds = begins_good c.args.select.now c.args.indexes.now (g.R.Reader.shown c.args.reader.now) c.args.snap c.args.cursor c.in_ok-asked.asked c.in-Ok.stack c.reads_of-reads.result c.requires c.in_ok-asked.ensures.asked c.in-Ok.ensures.starts;
   rules = opened_rules c.in_ok-asked.asked.race (g.R.Reader.shown c.args.reader.now) c.in_ok-asked.asked.cursor 1 (first_of c.in-Ok.stack).here (rw c.in-Ok.ensures.starts.top c.in-Ok.ensures.opened);
-  counted = λ one. rw c.first_trace-trace.ensures at c.reads_of-reads.ensures;
+  counted = λ one. rw c.first_trace.ensures at c.reads_of-reads.ensures;
 })
 
 pub returns-clause-rest : goal.returns-clause-rest

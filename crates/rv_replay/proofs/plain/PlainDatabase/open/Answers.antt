@@ -1,4 +1,5 @@
 use Rattle.std.proofs.Common.{◌∙◌, ap}
+use Rattle.std.proofs.lemmas.Result.{IfOk-weaker}
 use Rattle.rv_model.specs.Offers.{offers_in_order}
 use Rattle.rv_replay.proofs.Fetching.{opens, opens_not}
 use Rattle.rv_replay.proofs.plain.PlainDatabase.open.Goals as goal
@@ -6,7 +7,8 @@ use Rattle.rv_replay.proofs.plain.PlainDatabase.open.Goals as goal
 pub returns-in-Err-Refused : goal.returns-in-Err-Refused
 returns-in-Err-Refused c =
     let fault = rw (c.txns.ensures, c.in-Err-Refused.field-0-is) at c.in-Err-Refused.ensures.fault in
-    rw (← c.self.view_is) (opens_not c.self.inside.database.stand.db c.self.inside.cursors c.args.session c.args.name c.args.select.now c.in-Err-Refused.refusal fault)
+    let told = opens_not c.self.inside.database.stand.db c.self.inside.cursors c.args.session c.args.name c.args.select.now c.in-Err-Refused.refusal fault in
+    rw (← c.self.view_is) (IfOk-weaker c.refused.result _ _ (λ reply is. (is ∙ told.0, told.1)) c.refused.ensures)
 
 pub returns : goal.returns
 returns c =

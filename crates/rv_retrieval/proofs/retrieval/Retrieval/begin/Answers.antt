@@ -34,7 +34,7 @@ returns-clause-told c =
     subst (λ (x : Shape). x.trace ≡ start_told (record x { trace = new_trace c.args.strategy })) (sym is) (ap (λ (t : Trace). start_told (record made { trace = t })) c.in_ok-retrieval.ensures.told)
 
 pub returns-clause-unborrowed : goal.returns-clause-unborrowed
-returns-clause-unborrowed c = ap (λ (x : Shape). x.borrowed) c.tell_start.ensures ∙ ap (λ (x : Shape). x.borrowed) c.deref_mut.ensures.value ∙ c.in_ok-retrieval.ensures.unborrowed
+returns-clause-unborrowed c = ap (λ (x : Shape). x.borrowed) c.tell_start.ensures ∙ ap (λ (x : Shape). x.borrowed) c.deref_mut.ensures.value ∙ c.in_ok-retrieval.ensures.begun.borrowed
 
 pub returns-clause-last : goal.returns-clause-last
 returns-clause-last c rows pages = ap (λ (x : Shape). pages_work x.last rows pages) c.tell_start.ensures ∙ ap (λ (x : Shape). pages_work x.last rows pages) c.deref_mut.ensures.value ∙ c.in_ok-retrieval.ensures.last rows pages

@@ -1,6 +1,6 @@
 use Rattle.std.proofs.Common.{append_assoc}
 use Rattle.rv_io.proofs.Streams.{goes_then}
-use Rattle.rv_script.proofs.transcript.write_entry.Goals as goal
+use Rattle.rv_script.proofs.transcript.write_pieces.Goals as goal
 
 pub returns : goal.returns
 returns g c =
