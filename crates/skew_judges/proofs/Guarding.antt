@@ -2,15 +2,13 @@
 use Rattle.std.proofs.Common.{◌≡◌, ℕ, zero, suc, ◌+◌, ◌-◌, ◌*◌, ◌/◌, ◌^◌, ◌<◌, ◌≤◌, Bool, true, false, ◌&&◌, ◌||◌, nat_le, min, refl, ap, sym, ◌∙◌, arith, mul_comm, mul_right_comm, suc-mul, zero-mul, if◌then◌else◌}
 use Rattle.std.proofs.lemmas.Bool.Decides.{nat_tests}
 use Rattle.std.proofs.lemmas.Nat.{le-div, pow_pos}
+use Rattle.std.proofs.lemmas.Bool.{leb-false}
 use Rattle.rv_judge.specs.declared.judging.Facts.{Facts}
 use Rattle.rv_judge.specs.declared.judging.Verdict.{Verdict}
 use Rattle.rv_judge.specs.declared.judging.Verdict.TheVariants.{Continue, AbandonScan, AbandonForeground, AbandonBackground}
 use Rattle.rv_judge.specs.Verdicts.{Ruling}
 use Rattle.skew_judges.specs.Rules.{is_building}
 use Rattle.skew_judges.specs.Guard.{GuardedAreBounded, Keeps, goes_on, held_back, is_lent, is_long, is_sunk, listed, parts}
-
-less : (n m : ℕ) → nat_le n m ≡ false → m < n
-less n m test = grind (arith, nat_tests)
 
 -- from the fourth scan on
 pub parts_late : (n : ℕ) → parts (suc (suc (suc n))) ≡ 2 * 2 ^ suc (suc (suc n))
@@ -37,8 +35,8 @@ least_less a b n h = omega arith
 
 keeps : (facts : Facts) → is_sunk facts ≡ false → is_long facts ≡ false → Keeps facts
 keeps facts sunk long = record {
-  sunk = in_share (parts facts.scan) facts.spent facts.guaranteed (parts_some facts.scan) (less facts.guaranteed _ sunk);
-  few = least_less (listed facts) facts.projected facts.guaranteed (less facts.guaranteed (listed facts) long);
+  sunk = in_share (parts facts.scan) facts.spent facts.guaranteed (parts_some facts.scan) (leb-false facts.guaranteed _ sunk);
+  few = least_less (listed facts) facts.projected facts.guaranteed (leb-false facts.guaranteed (listed facts) long);
 }
 
 -- what the guard answers by the two tests
@@ -60,7 +58,7 @@ stopped lent = if lent then AbandonForeground else Continue
 
 not_lent : (lent : Bool) (facts : Facts) → is_lent facts ≡ lent → is_continue (stopped lent) ≡ true → 8 * 2 ^ facts.scan * facts.kept < facts.guaranteed
 not_lent true facts is goes = let no : false ≡ true = goes in cc
-not_lent false facts is goes = less facts.guaranteed _ is
+not_lent false facts is goes = leb-false facts.guaranteed _ is
 
 held_keeps : (facts : Facts) (answer : Verdict) → is_continue (held_back facts answer) ≡ true → is_building facts.control ≡ true → 8 * 2 ^ facts.scan * facts.kept < facts.guaranteed
 held_keeps facts Continue goes building = not_lent (is_lent facts) facts refl (sym (ap (λ b. is_continue (stopped (b && is_lent facts))) building) ∙ goes)
@@ -107,7 +105,7 @@ held_tests (suc k) power most n fits = by (nat_le power most) refl
         let most_is = held p in
         let left = at_least k (min power most) in
         let right = at_least k power in
-        let over = less power most p in
+        let over = leb-false power most p in
         both_reach (min (suc k * min power most) most) (suc k * power) n (omega (arith, most_is, left, fits)) (omega (arith, right, over, fits))
 
 -- the test of what is sunk, as the factors of a share are told
