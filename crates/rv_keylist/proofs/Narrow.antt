@@ -1,7 +1,6 @@
 -- Some keys of a list stay.
 use Rattle.std.proofs.Common.{◌≡◌, ℕ, ◌+◌, ◌<◌, ◌≤◌, ◌++◌, ◌∷◌, [], List, length, filter, nat_eq, Bool, true, false, cond, ◌||◌, refl, sym, ap, subst, ◌∙◌, inl, inr, arith, append-nil, Option, IfSome, IsSome}
-use Rattle.std.proofs.lemmas.Bool.{cases_Bool}
-use Rattle.std.proofs.lemmas.Bool.Decides.{nat_tests}
+use Rattle.std.proofs.lemmas.Bool.{cases_Bool, eqb-true}
 use Rattle.std.proofs.lemmas.List.{length-append}
 use Rattle.std.proofs.lemmas.List.Elements.{filter-append}
 use Rattle.rv_value.proofs.Lists.{filter_length}
@@ -30,12 +29,9 @@ it_stays p n (x ∷ xs) so =
       | false ↦ λ e. tail ∙ other (nat_eq n x) (has_key n xs) (differs e)
     ] refl
   where
-    number : (a b : ℕ) → nat_eq a b ≡ true → a ≡ b
-    number a b h = grind (arith, nat_tests)
-
     differs : p x ≡ false → nat_eq n x ≡ false
     differs e = elim (cases_Bool (nat_eq n x)) [
-      | inl here ↦ absurd (let bad : true ≡ false = sym so ∙ ap p (number n x here) ∙ e in cc)
+      | inl here ↦ absurd (let bad : true ≡ false = sym so ∙ ap p (eqb-true n x here) ∙ e in cc)
       | inr off ↦ off
     ]
 
