@@ -5,8 +5,8 @@ use Rattle.std.proofs.lemmas.Bool.Decides.{nat_tests}
 use Rattle.std.proofs.lemmas.List.{take_more}
 use Rattle.std.proofs.lemmas.List.Sorted.{IsPermutation-append_comm, IsPermutation-append_left, IsPermutation-append_right, IsPermutation-trans, length_permutation, list_any-IsPermutation}
 use Rattle.std.proofs.lemmas.Option.{get_or_from_slice_get, slice_get_within}
-use Rattle.std.proofs.lemmas.Bool.{and_right, or_from}
-use Rattle.rv_value.proofs.Tests.{right_false, other_false}
+use Rattle.std.proofs.lemmas.Bool.{and_right, or_from, or_left, or_right}
+use Rattle.rv_value.proofs.Tests.{right_false, other_false, same_number}
 use Rattle.rv_keys.specs.Keys.{has_key, Once}
 use Rattle.rv_keys.proofs.Onces.{Once-cons, Once-head, Once-IsPermutation, Once-nil, Once-tail, key_append}
 use Rattle.rv_keylist.specs.Listed.{Listed}
@@ -34,11 +34,8 @@ once_apart xs ys once = record { apart = λ n. each n xs ys once }
 
 pub once_append : (xs ys : List ℕ) → Once xs → Once ys → AreApart xs ys → Once (xs ++ ys)
 once_append [] ys once others a = others
-once_append (x ∷ xs) ys once others a = Once-cons x (xs ++ ys) (key_append x xs ys ∙ or_from (has_key x xs) (has_key x ys) (Once-head x xs once) (first_off (nat_eq x x) (has_key x xs) (has_key x ys) (same x) (a.apart x))) (once_append xs ys (Once-tail x xs once) others (record { apart = λ n. later (nat_eq n x) (has_key n xs) (has_key n ys) (a.apart n) }))
+once_append (x ∷ xs) ys once others a = Once-cons x (xs ++ ys) (key_append x xs ys ∙ or_from (has_key x xs) (has_key x ys) (Once-head x xs once) (first_off (nat_eq x x) (has_key x xs) (has_key x ys) (same_number x) (a.apart x))) (once_append xs ys (Once-tail x xs once) others (record { apart = λ n. later (nat_eq n x) (has_key n xs) (has_key n ys) (a.apart n) }))
   where
-    same : (a : ℕ) → nat_eq a a ≡ true
-    same a = grind (arith, nat_tests)
-
     first_off : (a b c : Bool) → a ≡ true → ((a || b) && c) ≡ false → c ≡ false
     first_off a b c h d = grind arith
 
@@ -53,17 +50,12 @@ apart_of keys moved others same a = record { apart = λ n. ap (λ (b : Bool). b 
 
 pub key_there : (keys : List ℕ) (i k : ℕ) → slice_get keys i ≡ Some k → has_key k keys ≡ true
 key_there [] i k e = absurd (cc)
-key_there (x ∷ keys) zero k e = first (nat_eq k x) (has_key k keys) (same k x (cc))
+key_there (x ∷ keys) zero k e = or_left (nat_eq k x) (has_key k keys) (same k x (cc))
   where
     same : (a b : ℕ) → b ≡ a → nat_eq a b ≡ true
     same a b e = grind (arith, nat_tests)
 
-    first : (a b : Bool) → a ≡ true → (a || b) ≡ true
-    first a b h = grind arith
-key_there (x ∷ keys) (suc i) k e = second (nat_eq k x) (has_key k keys) (key_there keys i k e)
-  where
-    second : (a b : Bool) → b ≡ true → (a || b) ≡ true
-    second a b h = grind arith
+key_there (x ∷ keys) (suc i) k e = or_right (nat_eq k x) (has_key k keys) (key_there keys i k e)
 
 key_new : (keys : List ℕ) (i k : ℕ) → Once keys → slice_get keys i ≡ Some k → has_key k (take i keys) ≡ false
 key_new [] i k once e = absurd (cc)

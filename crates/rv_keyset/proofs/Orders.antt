@@ -4,10 +4,11 @@ use Rattle.std.specs.Prelude.{nat_lt, if◌then◌else◌}
 use Rattle.std.specs.Cmp.{nat_cmp_is}
 use Rattle.std.specs.List.{AllByRecursion}
 use Rattle.std.specs.List.Sorted.{IsStrictlyIncreasing, IsStrictlySortedBy}
-use Rattle.std.proofs.lemmas.Bool.{or_parts, ltb-true}
+use Rattle.std.proofs.lemmas.Bool.{or_parts, ltb-true, or_from, or_left, ltb-false}
 use Rattle.std.proofs.lemmas.Bool.Decides.{nat_tests}
 use Rattle.std.proofs.lemmas.List.Sorted.{IsPermutation-append_comm, IsPermutation-append_left, IsPermutation-cons, IsPermutation-refl, IsPermutation-trans, length_permutation, list_any-IsPermutation}
 use Rattle.std.proofs.lemmas.Map.Keys.{IsStrictlyIncreasing-from_sorted, below_from_sorted, sorted_from_strictly_increasing}
+use Rattle.rv_value.proofs.Tests.{same_number}
 use Rattle.rv_keys.specs.Keys.{has_key, Once}
 use Rattle.rv_keys.proofs.Onces.{Once-ascending, Once-head, Once-tail}
 use Rattle.rv_keyset.specs.Sets.{ascending, placed}
@@ -88,22 +89,13 @@ ascending_rises keys once = IsStrictlyIncreasing-from_sorted (ascending keys) (a
 
 lacks : (x : ℕ) (keys : List ℕ) → Below x keys → has_key x keys ≡ false
 lacks x [] all = refl
-lacks x (y ∷ keys) all = both (nat_eq x y) (has_key x keys) (other x y (lower x y all.0)) (lacks x keys all.1)
+lacks x (y ∷ keys) all = or_from (nat_eq x y) (has_key x keys) (other x y (lower x y all.0)) (lacks x keys all.1)
   where
     other : (a b : ℕ) → a < b → nat_eq a b ≡ false
     other a b l = grind (arith, nat_tests)
 
-    both : (a b : Bool) → a ≡ false → b ≡ false → (a || b) ≡ false
-    both a b h i = grind arith
-
 first_there : (x : ℕ) (keys : List ℕ) → has_key x (x ∷ keys) ≡ true
-first_there x keys = there (nat_eq x x) (has_key x keys) (same x)
-  where
-    same : (a : ℕ) → nat_eq a a ≡ true
-    same a = grind (arith, nat_tests)
-
-    there : (a b : Bool) → a ≡ true → (a || b) ≡ true
-    there a b h = grind arith
+first_there x keys = or_left (nat_eq x x) (has_key x keys) (same_number x)
 
 -- what is below the first of ascending keys is not among them
 not_there : (x y : ℕ) (keys : List ℕ) → x < y → Below y keys → has_key x (y ∷ keys) ≡ false
@@ -112,12 +104,9 @@ not_there x y keys l all = lacks x (y ∷ keys) (less x y l, further x y keys l 
 not_lower : (x y : ℕ) (xs ys : List ℕ) → Below y ys → has_key x (x ∷ xs) ≡ has_key x (y ∷ ys) → y ≤ x
 not_lower x y xs ys all h = by (nat_lt x y) refl
   where
-    high : (a b : ℕ) → nat_lt a b ≡ false → b ≤ a
-    high a b l = grind (arith, nat_tests)
-
     by : (b : Bool) → nat_lt x y ≡ b → y ≤ x
     by true l = absurd (let bad : true ≡ false = sym (first_there x xs) ∙ h ∙ not_there x y ys (ltb-true x y l) all in cc)
-    by false l = high x y l
+    by false l = ltb-false x y l
 
 -- the keys behind equal first ones
 tails : (x n : ℕ) (xs ys : List ℕ) → Below x xs → Below x ys → (nat_eq n x || has_key n xs) ≡ (nat_eq n x || has_key n ys) → has_key n xs ≡ has_key n ys
