@@ -145,13 +145,10 @@ follows_fetched (Err e) old new passed entries h after err fits = rw err fits
 pub fetches_row : {E : Type 0} (r : Result Scanned E) (skip : Skipped) (only : List (List Atom)) (rows : List Record) (held : List IndexEntry) (passed : ℕ) (row : RowNo) (d : IndexEntry) (old new : Counts) → FindsEntry skip held (Some (passed, row)) → new ≡ record_read old → IfOk r (λ scanned. scanned ≡ looked only (row_at rows row.0)) → IfOk r (λ scanned. FetchesDue skip only rows scanned old new)
 fetches_row (Ok scanned) skip only rows held passed row d old new found read looks = inl (record {
   row = row.0;
-  unskipped = let at = found.1 d in clear (skips skip row.0) (ap (λ (n : RowNo). not (skips skip n.0)) at.1 ∙ at.0);
+  unskipped = let at = found.1 d in not-true (skips skip row.0) (ap (λ (n : RowNo). not (skips skip n.0)) at.1 ∙ at.0);
   read = read;
   looks = looks;
 })
-  where
-    clear : (b : Bool) → not b ≡ true → b ≡ false
-    clear b h = grind arith
 fetches_row (Err e) skip only rows held passed row d old new found read looks = tt
 
 pub fetches_none : {E : Type 0} (r : Result Scanned E) (skip : Skipped) (only : List (List Atom)) (rows : List Record) (old new : Counts) → OnOk r (new.records ≡ old.records) → IfOk r (λ scanned. FetchesDue skip only rows scanned old new)
