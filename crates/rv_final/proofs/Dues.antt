@@ -1,9 +1,9 @@
 -- What a scan's step says of each row number: the records that it looks through stand for rows of the table.
 use Rattle.std.proofs.Common.{◌≡◌, ℕ, List, [], ◌∷◌, drop, filter, Bool, true, false, not, cond, ◌&&◌, ◌||◌, refl, ap, sym, ◌∙◌, arith, subst, Some, nat_eq, zero, suc, inl, inr}
 use Rattle.std.specs.List.{AllByRecursion}
-use Rattle.std.proofs.lemmas.Bool.{cases_Bool, and_parts}
-use Rattle.std.proofs.lemmas.Bool.Decides.{nat_tests}
+use Rattle.std.proofs.lemmas.Bool.{cases_Bool, and_parts, or_from, eqb-true, or_left}
 use Rattle.rv_value.proofs.Lists.{all_drop}
+use Rattle.rv_value.proofs.Tests.{same_number}
 use Rattle.rv_value.specs.declared.record.Record.{Record}
 use Rattle.rv_rows.specs.Rows.{Ascend}
 use Rattle.rv_restrict.specs.declared.atom.Atom.{Atom}
@@ -38,12 +38,9 @@ has_kept n p (x ∷ xs) h =
     let tail : has_row n xs ≡ false = grind arith in
     let here : nat_eq n x.row.0 ≡ false = grind arith in
     elim (p x) as (λ b. has_row n (cond b (x ∷ filter p xs) (filter p xs)) ≡ false) [
-      | true ↦ or_false _ _ here (has_kept n p xs tail)
+      | true ↦ or_from _ _ here (has_kept n p xs tail)
       | false ↦ has_kept n p xs tail
     ]
-  where
-    or_false : (a b : Bool) → a ≡ false → b ≡ false → (a || b) ≡ false
-    or_false a b h i = grind arith
 
 pub apart_filter : (p : Record → Bool) (xs : List Record) → RowsApart xs → RowsApart (filter p xs)
 apart_filter p [] a = tt
@@ -60,7 +57,7 @@ due_has need only rows skip (x ∷ xs) n asc each q =
     let tail = due_has need only rows skip xs n asc each.1 q in
     elim (cases_Bool (nat_eq n x.row.0)) [
       | inl here ↦
-          let is : n ≡ x.row.0 = number n x.row.0 here in
+          let is : n ≡ x.row.0 = eqb-true n x.row.0 here in
           let stands = each.0 in
           let yes : qualifies only x.values ≡ true = stands.same ∙ sym (told_by only rows x.row.0 stands.row asc stands.there) ∙ ap (qualifies_at only rows) (sym is) ∙ q in
           let skipped : skips skip x.row.0 ≡ skips skip n = ap (skips skip) (sym is) in
@@ -68,7 +65,7 @@ due_has need only rows skip (x ∷ xs) n asc each q =
             | true ↦ λ e. let gone : skips skip n ≡ true = sym skipped ∙ e in tail ∙ none_left _ _ _ gone
             | false ↦ λ e.
                 let unskipped : skips skip n ≡ false = sym skipped ∙ e in
-                ap (λ (b : Bool). has_row n (cond b (x ∷ due only skip xs) (due only skip xs))) yes ∙ or_here _ _ here ∙ sym (and_here _ _ _ here unskipped)
+                ap (λ (b : Bool). has_row n (cond b (x ∷ due only skip xs) (due only skip xs))) yes ∙ or_left _ _ here ∙ sym (and_here _ _ _ here unskipped)
           ] refl
       | inr other ↦
           elim (is_due only skip x) as (λ b. has_row n (cond b (x ∷ due only skip xs) (due only skip xs)) ≡ (has_row n (x ∷ xs) && not (skips skip n))) [
@@ -77,12 +74,6 @@ due_has need only rows skip (x ∷ xs) n asc each q =
           ]
     ]
   where
-    number : (a b : ℕ) → nat_eq a b ≡ true → a ≡ b
-    number a b e = grind (arith, nat_tests)
-
-    or_here : (a b : Bool) → a ≡ true → (a || b) ≡ true
-    or_here a b h = grind arith
-
     or_other : (a b : Bool) → a ≡ false → (a || b) ≡ b
     or_other a b h = grind arith
 
@@ -117,7 +108,7 @@ found_marks need only rows skip xs ys r asc lx ly e =
       taken = stands.row;
       there = stands.there;
       qualifies = qualifies_row;
-      left = sym (due_has need only rows skip xs r.row.0 asc lx.each there) ∙ split r.row.0 ∙ or_here _ _ (itself r.row.0);
+      left = sym (due_has need only rows skip xs r.row.0 asc lx.each there) ∙ split r.row.0 ∙ or_left _ _ (same_number r.row.0);
       agrees = stands.agrees;
       wide = stands.wide;
       others = λ n q.
@@ -125,22 +116,13 @@ found_marks need only rows skip xs ys r asc lx ly e =
           let new : open_in ys skip n ≡ has_row n (due only skip ys) = sym (due_has need only rows skip ys n asc ly.each q) in
           new ∙ elim (cases_Bool (nat_eq n r.row.0)) [
             | inl here ↦
-                let is : n ≡ r.row.0 = number n r.row.0 here in
+                let is : n ≡ r.row.0 = eqb-true n r.row.0 here in
                 let none : has_row n (due only skip ys) ≡ false = ap (λ (m : ℕ). has_row m (due only skip ys)) is ∙ apart in
                 none ∙ sym (and_gone _ _ here)
             | inr other ↦ sym (ap (λ (b : Bool). b && not (nat_eq n r.row.0)) old ∙ and_other _ _ other)
           ];
     }
   where
-    number : (a b : ℕ) → nat_eq a b ≡ true → a ≡ b
-    number a b e = grind (arith, nat_tests)
-
-    itself : (n : ℕ) → nat_eq n n ≡ true
-    itself n = grind (arith, nat_tests)
-
-    or_here : (a b : Bool) → a ≡ true → (a || b) ≡ true
-    or_here a b h = grind arith
-
     and_gone : (a b : Bool) → b ≡ true → (a && not b) ≡ false
     and_gone a b h = grind arith
 

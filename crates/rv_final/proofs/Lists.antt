@@ -1,10 +1,10 @@
 -- The keys of a complete list in the final stage.
 use Rattle.std.proofs.Common.{◌≡◌, ℕ, ◌+◌, ◌-◌, ◌^◌, ◌<◌, ◌≤◌, List, [], ◌∷◌, drop, find, length, Bool, true, false, not, ◌&&◌, ◌||◌, refl, ap, sym, ◌∙◌, arith, subst, Some, None, Option, nat_eq, inl, inr, zero, suc, slice_get}
 use Rattle.std.specs.Prelude.{if◌then◌else◌}
-use Rattle.std.proofs.lemmas.Bool.{cases_Bool}
-use Rattle.std.proofs.lemmas.Bool.Decides.{nat_tests}
+use Rattle.std.proofs.lemmas.Bool.{cases_Bool, eqb-true}
 use Rattle.std.proofs.lemmas.List.{drop_more}
 use Rattle.std.proofs.lemmas.Option.{get_or_from_slice_get, slice_get_within}
+use Rattle.rv_value.proofs.Tests.{same_number}
 use Rattle.rv_value.specs.declared.record.Record.{Record}
 use Rattle.rv_value.specs.declared.record.RowNo.{RowNo}
 use Rattle.rv_rows.specs.Rows.{Ascend}
@@ -29,14 +29,11 @@ key_agree : (k : ℕ) (keys : List ℕ) (delivered : Option (List ℕ)) (n : ℕ
 key_agree k keys delivered n g =
     elim (cases_Bool (nat_eq n k)) [
       | inl here ↦
-          let none : has_key n keys ≡ false = ap (λ (m : ℕ). has_key m keys) (number n k here) ∙ g in
+          let none : has_key n keys ≡ false = ap (λ (m : ℕ). has_key m keys) (eqb-true n k here) ∙ g in
           both_none (nat_eq n k) (has_key n keys) (not (was_delivered delivered n)) none here
       | inr other ↦ skip_first (nat_eq n k) (has_key n keys) (not (was_delivered delivered n)) other
     ]
   where
-    number : (a b : ℕ) → nat_eq a b ≡ true → a ≡ b
-    number a b h = grind (arith, nat_tests)
-
     both_none : (c x m : Bool) → x ≡ false → c ≡ true → (x && m) ≡ (((c || x) && m) && not c)
     both_none c x m h i = grind arith
 
@@ -47,14 +44,11 @@ skipped_key : (k : ℕ) (keys : List ℕ) (delivered : Option (List ℕ)) (n : �
 skipped_key k keys delivered n d =
     elim (cases_Bool (nat_eq n k)) [
       | inl here ↦
-          let yes : was_delivered delivered n ≡ true = ap (λ (m : ℕ). was_delivered delivered m) (number n k here) ∙ d in
+          let yes : was_delivered delivered n ≡ true = ap (λ (m : ℕ). was_delivered delivered m) (eqb-true n k here) ∙ d in
           both_none (nat_eq n k) (has_key n keys) (was_delivered delivered n) yes
       | inr other ↦ skip_first (nat_eq n k) (has_key n keys) (was_delivered delivered n) other
     ]
   where
-    number : (a b : ℕ) → nat_eq a b ≡ true → a ≡ b
-    number a b h = grind (arith, nat_tests)
-
     both_none : (c x m : Bool) → m ≡ true → (x && not m) ≡ ((c || x) && not m)
     both_none c x m h = grind arith
 
@@ -106,14 +100,11 @@ ends_fetches list delivered at only rows c f = subst (λ (k : Option ℕ). Fetch
 list_fetched : (need : List ℕ) (only : List (List Atom)) (rows : List Record) (list delivered : Option (List ℕ)) (at mid k : ℕ) (s : Scanned) → Ascend rows → PassesKeys list delivered at mid → NextKey list mid k → was_delivered delivered k ≡ false → s ≡ looked only (row_at rows k) → StepMarks need only rows s (list_left list delivered at) (list_left list delivered (mid + 1))
 list_fetched need only rows list delivered at mid k s asc p key fresh is =
     let keys = keys_left list (mid + 1) in
-    let here : list_left list delivered mid k ≡ true = ap (λ (ks : List ℕ). has_key k ks && not (was_delivered delivered k)) key.split ∙ both_true (nat_eq k k) (has_key k keys) (was_delivered delivered k) (itself k) fresh in
+    let here : list_left list delivered mid k ≡ true = ap (λ (ks : List ℕ). has_key k ks && not (was_delivered delivered k)) key.split ∙ both_true (nat_eq k k) (has_key k keys) (was_delivered delivered k) (same_number k) fresh in
     let marks : StepMarks need only rows (looked only (row_at rows k)) (list_left list delivered mid) (list_left list delivered (mid + 1)) = fetched_marks need only rows (list_left list delivered mid) (list_left list delivered (mid + 1)) k (row_at rows k) asc refl here (λ n q. key_agree k keys delivered n key.gone ∙ ap (λ (ks : List ℕ). (has_key n ks && not (was_delivered delivered n)) && not (nat_eq n k)) (sym key.split)) in
     let moved = marks_move need only rows (looked only (row_at rows k)) (list_left list delivered mid) (list_left list delivered (mid + 1)) (list_left list delivered at) (list_left list delivered (mid + 1)) asc (λ n q. sym (p.same n)) (λ n q. refl) marks in
     subst (λ (x : Scanned). StepMarks need only rows x (list_left list delivered at) (list_left list delivered (mid + 1))) (sym is) moved
   where
-    itself : (n : ℕ) → nat_eq n n ≡ true
-    itself n = grind (arith, nat_tests)
-
     both_true : (a b c : Bool) → a ≡ true → c ≡ false → ((a || b) && not c) ≡ true
     both_true a b c h i = grind arith
 

@@ -2,8 +2,7 @@
 -- fetch of a row takes it out, whatever comes back.
 use Rattle.std.proofs.Common.{◌≡◌, ℕ, List, [], ◌∷◌, Bool, true, false, not, ◌&&◌, refl, ap, sym, ◌∙◌, arith, subst, Some, None, Option, nat_eq, inl, inr}
 use Rattle.std.specs.Prelude.{if◌then◌else◌}
-use Rattle.std.proofs.lemmas.Bool.{cases_Bool}
-use Rattle.std.proofs.lemmas.Bool.Decides.{nat_tests}
+use Rattle.std.proofs.lemmas.Bool.{cases_Bool, eqb-true}
 use Rattle.rv_reader.proofs.Rows.{found_row}
 use Rattle.rv_value.specs.declared.record.Record.{Record}
 use Rattle.rv_rows.specs.Rows.{Ascend}
@@ -35,13 +34,10 @@ fetched_marks need only rows old new k None asc f l a = without k (not_there onl
     keeps : (b c : Bool) → c ≡ false → (b && not c) ≡ b
     keeps b c h = grind arith
 
-    number : (a b : ℕ) → nat_eq a b ≡ true → a ≡ b
-    number a b h = grind (arith, nat_tests)
-
     without : (k : ℕ) → qualifies_at only rows k ≡ false → Agree only rows (λ n. old n && not (nat_eq n k)) new → Agree only rows old new
     without k none a n q =
         elim (cases_Bool (nat_eq n k)) [
-          | inl here ↦ absurd (let bad : true ≡ false = sym q ∙ ap (qualifies_at only rows) (number n k here) ∙ none in cc)
+          | inl here ↦ absurd (let bad : true ≡ false = sym q ∙ ap (qualifies_at only rows) (eqb-true n k here) ∙ none in cc)
           | inr other ↦ a n q ∙ keeps (old n) (nat_eq n k) other
         ]
 fetched_marks need only rows old new k (Some r) asc f l a =
@@ -57,13 +53,10 @@ fetched_marks need only rows old new k (Some r) asc f l a =
       }
       | false ↦ λ p. λ n q.
           elim (cases_Bool (nat_eq n k)) [
-            | inl here ↦ absurd (let bad : true ≡ false = sym q ∙ ap (qualifies_at only rows) (number n k here) ∙ told_by only rows k r asc f ∙ p in cc)
+            | inl here ↦ absurd (let bad : true ≡ false = sym q ∙ ap (qualifies_at only rows) (eqb-true n k here) ∙ told_by only rows k r asc f ∙ p in cc)
             | inr other ↦ a n q ∙ keeps (old n) (nat_eq n k) other
           ]
     ] refl
   where
     keeps : (b c : Bool) → c ≡ false → (b && not c) ≡ b
     keeps b c h = grind arith
-
-    number : (a b : ℕ) → nat_eq a b ≡ true → a ≡ b
-    number a b h = grind (arith, nat_tests)

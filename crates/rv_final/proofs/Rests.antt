@@ -1,8 +1,9 @@
 -- A rest that is a filter by a test on row numbers.
 use Rattle.std.proofs.Common.{◌≡◌, ℕ, ◌≤◌, List, [], ◌∷◌, Bool, true, false, not, cond, ◌&&◌, ◌||◌, refl, ap, sym, ◌∙◌, arith, subst, Some, None, Option, nat_eq, nat_lt, inl, inr, ◌==◌}
 use Rattle.std.specs.List.{list_all, AllByRecursion}
-use Rattle.std.proofs.lemmas.Bool.{cases_Bool, and_parts}
+use Rattle.std.proofs.lemmas.Bool.{cases_Bool, and_parts, or_right, and_from, and_right, eqb-true}
 use Rattle.std.proofs.lemmas.Bool.Decides.{nat_tests}
+use Rattle.rv_value.proofs.Tests.{same_number}
 use Rattle.rv_reader.proofs.Rows.{found_row}
 use Rattle.rv_value.specs.declared.record.Record.{Record}
 use Rattle.rv_rows.specs.Rows.{Ascend, comes_below}
@@ -14,17 +15,11 @@ use Rattle.rv_final.specs.Rest.{rest_by, qualifies_at, Agree, AgreesIn, IsWide, 
 here_qualifies : (only : List (List Atom)) (r : Record) (rows : List Record) → qualifies only r.values ≡ true → qualifies_at only (r ∷ rows) r.row.0 ≡ true
 here_qualifies only r rows p = first _ _ _ (same_number r.row.0) p
   where
-    same_number : (n : ℕ) → nat_eq n n ≡ true
-    same_number n = grind (arith, nat_tests)
-
     first : (a b c : Bool) → a ≡ true → b ≡ true → ((a && b) || c) ≡ true
     first a b c h i = grind arith
 
 pub later_qualifies : (only : List (List Atom)) (r : Record) (rows : List Record) (n : ℕ) → qualifies_at only rows n ≡ true → qualifies_at only (r ∷ rows) n ≡ true
 later_qualifies only r rows n q = or_right _ _ q
-  where
-    or_right : (a b : Bool) → b ≡ true → (a || b) ≡ true
-    or_right a b h = grind arith
 
 -- tests that agree on the rows that qualify leave the same rest
 pub same_rest : (only : List (List Atom)) (rows : List Record) (old new : ℕ → Bool) → Agree only rows old new → rest_by new only rows ≡ rest_by old only rows
@@ -121,10 +116,7 @@ behind_found r (x ∷ rows) more h a =
 
 pub rows_found : (rows : List Record) → Ascend rows → AllByRecursion (λ (x : Record). row_at rows x.row.0 ≡ Some x) rows
 rows_found [] a = tt
-rows_found (r ∷ rows) a = (ap (λ (b : Bool). cond b (Some r) (row_at rows r.row.0)) (itself r.row.0), behind_found r rows rows a.0 (rows_found rows a.1))
-  where
-    itself : (n : ℕ) → (n == n) ≡ true
-    itself n = grind (arith, nat_tests)
+rows_found (r ∷ rows) a = (ap (λ (b : Bool). cond b (Some r) (row_at rows r.row.0)) (same_number r.row.0), behind_found r rows rows a.0 (rows_found rows a.1))
 
 -- One record is taken out of the rest.
 
@@ -144,10 +136,10 @@ takes_out need only (x ∷ rows) old new r taken k asc f row p l ag w a =
     elim (x.row.0 == k) as (λ b. (x.row.0 == k) ≡ b → cond b (Some x) (row_at rows k) ≡ Some taken → TakesOut need r (rest_by old only (x ∷ rows)) (rest_by new only (x ∷ rows))) [
       | true ↦ λ e f.
           let same : x ≡ taken = cc in
-          let is : x.row.0 ≡ k = number _ _ e in
-          let yes : (qualifies only x.values && old x.row.0) ≡ true = and_true _ _ (ap (λ (y : Record). qualifies only y.values) same ∙ p) (ap old is ∙ l) in
-          let out : new x.row.0 ≡ false = a x.row.0 (here_qualifies only x rows (ap (λ (y : Record). qualifies only y.values) same ∙ p)) ∙ is_out _ _ (ap (λ (m : ℕ). nat_eq m k) is ∙ itself k) in
-          let no : (qualifies only x.values && new x.row.0) ≡ false = and_false _ _ out in
+          let is : x.row.0 ≡ k = eqb-true _ _ e in
+          let yes : (qualifies only x.values && old x.row.0) ≡ true = and_from _ _ (ap (λ (y : Record). qualifies only y.values) same ∙ p) (ap old is ∙ l) in
+          let out : new x.row.0 ≡ false = a x.row.0 (here_qualifies only x rows (ap (λ (y : Record). qualifies only y.values) same ∙ p)) ∙ is_out _ _ (ap (λ (m : ℕ). nat_eq m k) is ∙ same_number k) in
+          let no : (qualifies only x.values && new x.row.0) ≡ false = and_right _ _ out in
           let low : k ≤ x.row.0 = omega (arith, is) in
           let tail = same_rest only rows old new (without_agree only rows old new k (below_all x rows k low asc.0) (λ n q. a n (later_qualifies only x rows n q))) in
           record {
@@ -183,20 +175,8 @@ takes_out need only (x ∷ rows) old new r taken k asc f row p l ag w a =
           ] refl
     ] refl f
   where
-    number : (a b : ℕ) → (a == b) ≡ true → a ≡ b
-    number a b e = grind (arith, nat_tests)
-
     unequal : (a b : ℕ) → (a == b) ≡ false → nat_eq a b ≡ false
     unequal a b e = grind (arith, nat_tests)
-
-    itself : (n : ℕ) → nat_eq n n ≡ true
-    itself n = grind (arith, nat_tests)
-
-    and_true : (a b : Bool) → a ≡ true → b ≡ true → (a && b) ≡ true
-    and_true a b h i = grind arith
-
-    and_false : (a b : Bool) → b ≡ false → (a && b) ≡ false
-    and_false a b h = grind arith
 
     is_out : (a b : Bool) → b ≡ true → (a && not b) ≡ false
     is_out a b h = grind arith

@@ -1,5 +1,6 @@
 -- The scan of the table in the final stage.
-use Rattle.std.proofs.Common.{◌≡◌, ℕ, List, [], Bool, false, not, ◌&&◌, ◌||◌, ap, sym, ◌∙◌, arith, subst, None, Option, Result, Ok, Err, IfOk}
+use Rattle.std.proofs.Common.{◌≡◌, ℕ, List, [], Bool, not, ◌&&◌, ap, sym, ◌∙◌, subst, None, Option, Result, Ok, Err, IfOk}
+use Rattle.std.proofs.Math.Bool.{or-false}
 use Rattle.rv_value.specs.declared.record.Record.{Record}
 use Rattle.rv_value.proofs.Lists.{filter_true}
 use Rattle.rv_rows.specs.Rows.{Ascend}
@@ -32,11 +33,8 @@ table_marks need only rows delivered old new s w u asc f g step =
     (λ n q. ap (λ (b : Bool). has_row n (unseen new rows) && not b) (sym (same n)))
     (step_marks need only rows (passing delivered) (unseen old rows) (unseen new rows) s w u asc old_look new_look step)
   where
-    or_false : (b : Bool) → (b || false) ≡ b
-    or_false b = grind arith
-
     same : (n : ℕ) → skips (passing delivered) n ≡ was_delivered delivered n
-    same n = or_false (was_delivered delivered n)
+    same n = or-false (was_delivered delivered n)
 
 pub table_marks_if : {E : Type 0} (r : Result Scanned E) (need : List ℕ) (only : List (List Atom)) (rows : List Record) (delivered : Option (List ℕ)) (old new : Place) (w u : ℕ) → Ascend rows → PlaceFits old rows → PlaceFits new rows → IfOk r (λ s. StepsTo s (pages_rest old rows only (passing delivered)) w (pages_rest new rows only (passing delivered)) u) → IfOk r (λ s. StepMarks need only rows s (table_left old rows delivered) (table_left new rows delivered))
 table_marks_if (Ok s) need only rows delivered old new w u asc f g step = table_marks need only rows delivered old new s w u asc f g step
