@@ -1,6 +1,6 @@
 -- How many entries of the view are in a range.
 use Rattle.std.proofs.Common.{◌≡◌, ℕ, zero, suc, ◌+◌, ◌-◌, ◌≤◌, List, [], ◌∷◌, Bool, true, false, not, nat_eq, ◌&&◌, cond, inl, inr, refl, ap, sym, subst, filter, length, arith}
-use Rattle.std.proofs.lemmas.Bool.{cases_Bool, and_parts}
+use Rattle.std.proofs.lemmas.Bool.{cases_Bool, and_parts, not-true}
 use Rattle.std.specs.List.{list_all}
 use Rattle.std.specs.Ordering.{is_eq, is_lt}
 use Rattle.std.specs.declared.cmp.Ordering.{Ordering}
@@ -81,13 +81,9 @@ new_filter : (p q : IndexEntry → Bool) (es xs : List IndexEntry) → list_all 
 new_filter p q [] xs all = tt
 new_filter p q (e ∷ es) xs all =
     let parts = and_parts (not (has xs e)) (list_all (λ (x : IndexEntry). not (has xs x)) es) all in
-    let here = all_filter (other e) q xs (not_among e xs (turned (has xs e) parts.0)) in
+    let here = all_filter (other e) q xs (not_among e xs (not-true (has xs e) parts.0)) in
     let rest = new_filter p q es xs parts.1 in
     elim (p e) as (λ b. AreNew (cond b (e ∷ filter p es) (filter p es)) (filter q xs)) [ true ↦ (here, rest) | false ↦ rest ]
-  where
-    turned : (b : Bool) → not b ≡ true → b ≡ false
-    turned true h = cc
-    turned false h = refl
 
 -- Entries taken away.
 

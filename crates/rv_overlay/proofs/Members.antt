@@ -3,6 +3,7 @@ use Rattle.std.proofs.Common.{◌≡◌, List, [], ◌∷◌, ◌++◌, Bool, tr
 use Rattle.std.proofs.lemmas.Bool.{cases_Bool}
 use Rattle.std.specs.List.{list_all, list_any}
 use Rattle.std.specs.Ordering.{is_eq}
+use Rattle.std.proofs.Math.Bool.{or-true, or-false, and_comm}
 use Rattle.rv_value.specs.declared.record.IndexEntry.{IndexEntry}
 use Rattle.rv_value.specs.Entries.{entry_cmp}
 use Rattle.rv_rows.specs.Rising.{put_in}
@@ -85,23 +86,15 @@ pub has_put : (x : IndexEntry) (ys : List IndexEntry) (e : IndexEntry) → has (
 has_put x ys e =
     has_joined (filter (λ y. comes_before y x) ys) (x ∷ filter (λ y. comes_before x y) ys) e
     ∙ rw (has_filter (λ y. comes_before y x) ys e, has_filter (λ y. comes_before x y) ys e) (elim (cases_Bool (is_eq (entry_cmp x e))) [
-      | inl t ↦ rw t (or_true (comes_before e x && has ys e))
+      | inl t ↦ rw t (or-true (comes_before e x && has ys e))
       | inr f ↦ rw f (elim (cases_Bool (comes_before e x)) [
-        | inl u ↦ rw (u, one_way e x u) (or_false (has ys e))
+        | inl u ↦ rw (u, one_way e x u) (or-false (has ys e))
         | inr v ↦ elim (cases_Bool (comes_before x e)) [
           | inl w ↦ rw (v, w) refl
           | inr w ↦ let is : x ≡ e = same x e w v in let wrong : is_eq (entry_cmp x e) ≡ true = subst (λ d. is_eq (entry_cmp x d) ≡ true) is (itself_true x) in let no : true ≡ false = sym wrong ∙ f in cc
         ]
       ])
     ])
-  where
-    or_true : (b : Bool) → (b || true) ≡ true
-    or_true true = refl
-    or_true false = refl
-
-    or_false : (b : Bool) → (b || false) ≡ b
-    or_false true = refl
-    or_false false = refl
 
 has_with : (es xs : List IndexEntry) (e : IndexEntry) → has (with_all es xs) e ≡ (has es e || has xs e)
 has_with [] xs e = refl
@@ -114,10 +107,4 @@ has_with (x ∷ es) xs e = has_with es (put_in comes_before x xs) e ∙ ap (λ b
     turned false false c = refl
 
 pub laid_has : LaidHas
-laid_has taken added entries e = has_with added (without taken entries) e ∙ ap (λ b. has added e || b) (has_filter (λ x. not (has taken x)) entries e ∙ swapped (not (has taken e)) (has entries e))
-  where
-    swapped : (a b : Bool) → (a && b) ≡ (b && a)
-    swapped true true = refl
-    swapped true false = refl
-    swapped false true = refl
-    swapped false false = refl
+laid_has taken added entries e = has_with added (without taken entries) e ∙ ap (λ b. has added e || b) (has_filter (λ x. not (has taken x)) entries e ∙ and_comm (not (has taken e)) (has entries e))

@@ -3,6 +3,7 @@ use Rattle.std.proofs.Common.{◌≡◌, ℕ, List, [], ◌∷◌, ◌++◌, Boo
 use Rattle.std.proofs.lemmas.Bool.{cases_Bool}
 use Rattle.std.proofs.lemmas.Bool.Decides.{nat_tests}
 use Rattle.std.specs.Ordering.{is_eq}
+use Rattle.std.proofs.Math.Bool.{and-true}
 use Rattle.rv_value.specs.declared.record.Record.{Record}
 use Rattle.rv_value.specs.declared.record.IndexEntry.{IndexEntry}
 use Rattle.rv_value.specs.Entries.{entry_cmp}
@@ -123,11 +124,7 @@ has_with_some None xs e = refl
 has_with_some (Some x) xs e = has_put x xs e
 
 has_without_some : (o : Option IndexEntry) (xs : List IndexEntry) (e : IndexEntry) → has (without_some o xs) e ≡ (has xs e && not (here o e))
-has_without_some None xs e = sym (and_true (has xs e))
-  where
-    and_true : (b : Bool) → (b && true) ≡ b
-    and_true true = refl
-    and_true false = refl
+has_without_some None xs e = sym (and-true (has xs e))
 has_without_some (Some x) xs e = has_taken x xs e
 
 same_here : (a b : Option IndexEntry) (e : IndexEntry) → are_same a b ≡ true → here a e ≡ here b e

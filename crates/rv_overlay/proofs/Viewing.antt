@@ -4,6 +4,7 @@ use Rattle.std.proofs.lemmas.Bool.{cases_Bool, and_parts}
 use Rattle.std.proofs.lemmas.Bool.Decides.{nat_tests}
 use Rattle.std.specs.List.{list_all}
 use Rattle.std.specs.Ordering.{is_eq}
+use Rattle.std.proofs.Math.Bool.{or-false, and-true}
 use Rattle.rv_reader.proofs.Rows.{applied_ascends}
 use Rattle.rv_value.specs.declared.record.Record.{Record}
 use Rattle.rv_value.specs.declared.record.IndexEntry.{IndexEntry}
@@ -55,16 +56,12 @@ has_mapped : (columns : List ℕ) (rows : List Record) (e : IndexEntry) → rows
 has_mapped columns [] e ascend = refl
 has_mapped columns (r ∷ rows) e ascend = elim (cases_Bool (r.row.0 == e.row.0)) [
   | inl t ↦
-      ap (λ b. is_eq (entry_cmp (entry_of columns r) e) || b) (none_mapped columns r rows e t ascend.0) ∙ or_false (is_eq (entry_cmp (entry_of columns r) e))
+      ap (λ b. is_eq (entry_cmp (entry_of columns r) e) || b) (none_mapped columns r rows e t ascend.0) ∙ or-false (is_eq (entry_cmp (entry_of columns r) e))
       ∙ sym (ap (λ (b : Bool). is_entry columns (cond b (Some r) (row_at rows e.row.0)) e) t)
   | inr f ↦
       ap (λ b. b || has (map (entry_of columns) rows) e) (row_other columns r e f) ∙ has_mapped columns rows e ascend.1
       ∙ sym (ap (λ (b : Bool). is_entry columns (cond b (Some r) (row_at rows e.row.0)) e) f)
 ]
-  where
-    or_false : (b : Bool) → (b || false) ≡ b
-    or_false true = refl
-    or_false false = refl
 
 pub has_entries : (columns : List ℕ) (rows : List Record) (e : IndexEntry) → rows_by_number.Ascend rows → has (entries_of columns rows) e ≡ is_entry columns (row_at rows e.row.0) e
 has_entries columns rows e ascend = has_sorted (map (entry_of columns) rows) e ∙ has_mapped columns rows e ascend
@@ -77,11 +74,7 @@ old_new false true = refl
 old_new false false = refl
 
 one_entry : (columns : List ℕ) (c : Option Change) (found : Option Record) (e : IndexEntry) → (adds columns c found e || (is_entry columns found e && not (takes columns c found e))) ≡ is_entry columns (changed_row c found) e
-one_entry columns None found e = and_true (is_entry columns found e)
-  where
-    and_true : (b : Bool) → (b && true) ≡ b
-    and_true true = refl
-    and_true false = refl
+one_entry columns None found e = and-true (is_entry columns found e)
 one_entry columns (Some c) found e = old_new (is_entry columns found e) (is_entry columns (changed_row (Some c) None) e)
 
 pub view_is : ViewIs
