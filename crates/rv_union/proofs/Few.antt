@@ -1,11 +1,10 @@
 -- Indexes that stand once among a few are few.
 use Rattle.std.proofs.Common.{◌≡◌, ℕ, ◌+◌, ◌≤◌, List, [], ◌∷◌, ◌++◌, length, Bool, true, false, cond, ◌||◌, refl, ap, sym, ◌∙◌, arith, nat_eq}
 use Rattle.std.specs.List.{list_all}
-use Rattle.std.proofs.lemmas.Bool.Decides.{nat_tests}
 use Rattle.std.proofs.lemmas.List.Folds.{list_any-append}
 use Rattle.std.proofs.lemmas.Bool.{and_from, eqb-true, or_left, or_right}
 use Rattle.std.specs.Cmp.{first_so, second_so}
-use Rattle.rv_value.proofs.Tests.{left_false, number_turned, right_false}
+use Rattle.rv_value.proofs.Tests.{left_false, number_turned, right_false, same_number}
 use Rattle.rv_judge.specs.Runs.{EachOnce, has_index}
 
 either : (a b c : Bool) → (a || b) ≡ true → (a ≡ true → c ≡ true) → (b ≡ true → c ≡ true) → c ≡ true
@@ -67,11 +66,8 @@ once_push (x ∷ xs) i once off = (index_append x xs (i ∷ []) ∙ none (has_in
     none a b h k = grind arith
 
 pub pushed_there : (xs : List ℕ) (i : ℕ) → has_index i (xs ++ i ∷ []) ≡ true
-pushed_there xs i = index_append i xs (i ∷ []) ∙ last (has_index i xs) (nat_eq i i) (itself i)
+pushed_there xs i = index_append i xs (i ∷ []) ∙ last (has_index i xs) (nat_eq i i) (same_number i)
   where
-    itself : (n : ℕ) → nat_eq n n ≡ true
-    itself n = grind (arith, nat_tests)
-
     last : (a b : Bool) → b ≡ true → (a || (b || false)) ≡ true
     last a b h = grind arith
 

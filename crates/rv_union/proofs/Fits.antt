@@ -5,7 +5,8 @@ use Rattle.std.specs.List.{list_any}
 use Rattle.std.proofs.lemmas.List.Elements.{filter-append}
 use Rattle.std.proofs.lemmas.List.Sorted.{list_any-IsPermutation}
 use Rattle.std.specs.Cmp.{first_so}
-use Rattle.std.proofs.Math.Bool.{or-false}
+use Rattle.std.proofs.Math.Bool.{or-false, or_assoc}
+use Rattle.std.proofs.lemmas.Bool.{or_left, or_right}
 use Rattle.rv_value.proofs.Tests.{either}
 use Rattle.rv_value.specs.declared.record.IndexEntry.{IndexEntry}
 use Rattle.rv_keys.specs.Keys.{has_key}
@@ -63,14 +64,8 @@ passed_lane plan shown snap l admits piece cut f has next =
 -- in admits it
 pub still_found : (key before now later : Bool) → (key || (before || later)) ≡ true → (not key ≡ true → before ≡ true → now ≡ true) → (key || (now || later)) ≡ true
 still_found true before now later h on = refl
-still_found false true now later h on = first now later (on refl refl)
-  where
-    first : (a b : Bool) → a ≡ true → (a || b) ≡ true
-    first a b h = grind arith
-still_found false false now later h on = second now later h
-  where
-    second : (a b : Bool) → b ≡ true → (a || b) ≡ true
-    second a b h = grind arith
+still_found false true now later h on = or_left now later (on refl refl)
+still_found false false now later h on = or_right now later h
 
 pub passed_found : (u : Unioned) (piece : Pieced) (cut : IndexEntry) (shown : Shown) (n : ℕ) → piece.part ≡ (present u).part → HasEntries u.lane.held piece.entries → IfSome u.lane.held (IsLeafAt (present u) shown u.snap u.lane.place) → held_next u.lane.held ≡ Some cut → found u shown n ≡ true → (has_key n u.keys || (builds (present u) shown u.snap (passed (lacks u.keys) piece u.lane) n || meets_any (drop (u.member + 1) u.plans) shown u.snap n)) ≡ true
 passed_found u piece cut shown n part has drawn next f =
@@ -118,21 +113,12 @@ ahead_met plan shown snap None n h = h
 ahead_met plan shown snap (Some start) n h = left_entry n (λ (e : IndexEntry). not (comes_before e start)) (λ (e : IndexEntry). passes plan.part e.key) (is_in plan.range) (shown.entries plan.index snap) h
 
 in_front : (part : Parted) (n : ℕ) (xs ys : List IndexEntry) → has_entry n (passing part xs) ≡ true → has_entry n (passing part (xs ++ ys)) ≡ true
-in_front part n xs ys h = ap (has_entry n) (filter-append (λ (e : IndexEntry). passes part e.key) xs ys) ∙ has_append n (passing part xs) (passing part ys) ∙ first (has_entry n (passing part xs)) (has_entry n (passing part ys)) h
-  where
-    first : (a b : Bool) → a ≡ true → (a || b) ≡ true
-    first a b h = grind arith
+in_front part n xs ys h = ap (has_entry n) (filter-append (λ (e : IndexEntry). passes part e.key) xs ys) ∙ has_append n (passing part xs) (passing part ys) ∙ or_left (has_entry n (passing part xs)) (has_entry n (passing part ys)) h
 
 any_at : (plans : List ScanPlan) (i : ℕ) (shown : Shown) (snap n : ℕ) → i < length plans → meets (plan_at plans i) shown snap n ≡ true → meets_any plans shown snap n ≡ true
 any_at [] i shown snap n l h = absurd (omega arith)
-any_at (p ∷ plans) zero shown snap n l h = first (meets p shown snap n) (meets_any plans shown snap n) h
-  where
-    first : (a b : Bool) → a ≡ true → (a || b) ≡ true
-    first a b h = grind arith
-any_at (p ∷ plans) (suc i) shown snap n l h = second (meets p shown snap n) (meets_any plans shown snap n) (any_at plans i shown snap n (omega arith) h)
-  where
-    second : (a b : Bool) → b ≡ true → (a || b) ≡ true
-    second a b h = grind arith
+any_at (p ∷ plans) zero shown snap n l h = or_left (meets p shown snap n) (meets_any plans shown snap n) h
+any_at (p ∷ plans) (suc i) shown snap n l h = or_right (meets p shown snap n) (meets_any plans shown snap n) (any_at plans i shown snap n (omega arith) h)
 
 -- of the leaf that the present member holds
 pub passed_met : (u : Unioned) (piece : Pieced) (shown : Shown) → Awaits u piece → UnionFits u shown → AreMet (u.lane.building ++ kept_of u piece) u.plans shown u.snap
@@ -155,12 +141,9 @@ pub record Gathers (u : Unioned) (keys : List ℕ) (shown : Shown) : Type 0 wher
   pub each : (n : ℕ) → owed u shown n ≡ true → (has_key n keys || meets_any (drop (u.member + 1) u.plans) shown u.snap n) ≡ true
   pub met : AreMet keys u.plans shown u.snap
 
-regroup : (a b c : Bool) → (a || (b || c)) ≡ ((a || b) || c)
-regroup a b c = grind arith
-
 pub last_gathers : (u : Unioned) (piece : Pieced) (keys : List ℕ) (shown : Shown) → Awaits u piece → held_next u.lane.held ≡ None → IsPermutation (u.keys ++ (u.lane.building ++ kept_of u piece)) keys → UnionFits u shown → Gathers u keys shown
 last_gathers u piece keys shown a next perm f = record {
-  each = λ n o. ap (λ (b : Bool). b || later n) (is_key n) ∙ sym (regroup (has_key n u.keys) (has_key n built) (later n)) ∙ all n (f.finds a.under_way n o);
+  each = λ n o. ap (λ (b : Bool). b || later n) (is_key n) ∙ or_assoc (has_key n u.keys) (has_key n built) (later n) ∙ all n (f.finds a.under_way n o);
   met = record { met = λ n h. either (has_key n u.keys) (has_key n built) (sym (is_key n) ∙ h) (λ b. f.listed.met n b) (λ b. (passed_met u piece shown a f).met n b) };
 }
   where

@@ -1,7 +1,7 @@
 -- A change of the member, of the keys or of the control leaves the fit and the rest.
-use Rattle.std.proofs.Common.{◌≡◌, ℕ, ◌+◌, ◌<◌, ◌≤◌, length, drop, Bool, true, false, ◌||◌, refl, ap, sym, ◌∙◌, arith, subst, Some, nat_lt}
+use Rattle.std.proofs.Common.{◌≡◌, ℕ, ◌+◌, ◌<◌, ◌≤◌, length, drop, Bool, true, false, ◌||◌, refl, ap, sym, ◌∙◌, arith, subst, Some}
 use Rattle.std.specs.Prelude.{if◌then◌else◌}
-use Rattle.std.proofs.lemmas.Bool.Decides.{nat_tests}
+use Rattle.std.proofs.lemmas.Bool.{ltb-true, ltb-false}
 use Rattle.rv_value.proofs.Tests.{no_way}
 use Rattle.rv_keys.specs.Keys.{has_key}
 use Rattle.rv_judge.specs.declared.events.Control.{Control}
@@ -168,15 +168,9 @@ told_parts u = elim (was_begun (index_of u) u.trace.events.items) as (λ b. (if 
 -- what holds where the next member begins, and where the list is fetched, holds where a member is over
 pub over_as : (P : Unioned → Type 0) (u : Unioned) → (u.member + 1 < length u.plans → P (going_on u)) → (length u.plans ≤ u.member + 1 → P (listed u)) → P (over u)
 over_as P u on off = elim (has_next u) as (λ b. has_next u ≡ b → P (if b then going_on u else listed u)) [
-  | true ↦ λ e. on (less (u.member + 1) (length u.plans) e)
-  | false ↦ λ e. off (most (u.member + 1) (length u.plans) e)
+  | true ↦ λ e. on (ltb-true (u.member + 1) (length u.plans) e)
+  | false ↦ λ e. off (ltb-false (u.member + 1) (length u.plans) e)
 ] refl
-  where
-    less : (a b : ℕ) → nat_lt a b ≡ true → a < b
-    less a b h = grind (arith, nat_tests)
-
-    most : (a b : ℕ) → nat_lt a b ≡ false → b ≤ a
-    most a b h = grind (arith, nat_tests)
 
 going_on_stays : (u : Unioned) (shown : Shown) → scanning u.control ≡ true → u.lane ≡ no_lane → UnionFits u shown → Gathers u u.keys shown → u.member + 1 < length u.plans → Stays u shown (going_on u)
 going_on_stays u shown back none f g l =
