@@ -5,6 +5,7 @@ use Rattle.std.specs.List.{list_any, position_or_len}
 use Rattle.std.proofs.lemmas.Bool.{cases_Bool, and_parts, not-true}
 use Rattle.std.proofs.lemmas.Bool.Decides.{nat_tests}
 use Rattle.std.proofs.lemmas.List.Sums.{position_or_len_is}
+use Rattle.std.proofs.Math.Bool.{or-false, or_assoc}
 use Rattle.rv_catalog.proofs.Known.{none_any}
 use Rattle.rv_rows.specs.declared.changes.Change.{Change}
 use Rattle.rv_value.proofs.Places.{read_as}
@@ -38,16 +39,8 @@ some_any p [] = refl
 some_any p (x ∷ xs) = elim (cases_Bool (p x)) [ inl t ↦ rw t refl | inr f ↦ rw f (some_any p xs) ]
 
 any_last : (p : Transaction → Bool) (xs : List Transaction) (t : Transaction) → list_any p (xs ++ t ∷ []) ≡ (list_any p xs || p t)
-any_last p [] t = or_none (p t)
-  where
-    or_none : (b : Bool) → (b || false) ≡ b
-    or_none true = refl
-    or_none false = refl
-any_last p (x ∷ xs) t = ap (λ b. p x || b) (any_last p xs t) ∙ or_joined (p x) (list_any p xs) (p t)
-  where
-    or_joined : (a b c : Bool) → (a || (b || c)) ≡ ((a || b) || c)
-    or_joined true b c = refl
-    or_joined false b c = refl
+any_last p [] t = or-false (p t)
+any_last p (x ∷ xs) t = ap (λ b. p x || b) (any_last p xs t) ∙ sym (or_assoc (p x) (list_any p xs) (p t))
 
 apart_last : (active : List Transaction) (t : Transaction) → are_apart active ≡ true → list_any (λ (u : Transaction). u.session == t.session) active ≡ false → are_apart (active ++ t ∷ []) ≡ true
 apart_last [] t apart none = refl
