@@ -1,11 +1,11 @@
 -- A race's trace goes on telling a run of the course, with each piece, each end of a scan and each verdict.
-use Rattle.std.proofs.Common.{◌≡◌, ◌⊎◌, ◌∙◌, ℕ, ◌+◌, ◌-◌, ◌<◌, ◌≤◌, List, [], ◌∷◌, ◌++◌, Bool, true, false, not, ◌&&◌, ◌||◌, Option, Some, None, is_some, IfSome, length, drop, take, min, nat_lt, nat_eq, refl, ap, sym, subst, arith, append_assoc, length-append, suc, inl, inr, Result, Ok, Err, IfOk, OnErr}
+use Rattle.std.proofs.Common.{◌≡◌, ◌⊎◌, ◌∙◌, ℕ, ◌+◌, ◌-◌, ◌<◌, ◌≤◌, List, [], ◌∷◌, ◌++◌, Bool, true, false, not, ◌||◌, Option, Some, None, is_some, IfSome, length, drop, take, min, nat_lt, nat_eq, refl, ap, sym, subst, arith, append_assoc, length-append, suc, inl, inr, Result, Ok, Err, IfOk, OnErr}
 use Rattle.std.specs.List.{list_all}
 use Rattle.std.proofs.lemmas.Bool.{cases_Bool, and_from}
 use Rattle.std.proofs.lemmas.Bool.Decides.{nat_tests}
 use Rattle.std.proofs.lemmas.List.{map-append}
 use Rattle.std.proofs.lemmas.List.Folds.{list_all-append}
-use Rattle.std.specs.Cmp.{first_so}
+use Rattle.std.specs.Cmp.{first_so, second_so}
 use Rattle.rv_judge.proofs.Rooms.{with_room}
 use Rattle.rv_jscan.proofs.Planned.{dropped_one, index_known}
 use Rattle.rv_value.specs.declared.record.IndexEntry.{IndexEntry}
@@ -458,13 +458,10 @@ ended_tells piece keys old back t =
     let r = listed keys (accepted piece true old) in
     let c = listed_closes piece keys old v in
     over_as Tells (λ b. ScanEnded b true) r
-    (λ m. racing_tells (going_on r) back t.named (closed_on old r (Some (length keys)) v c (some_key keys (right_of_both (has_next (length r.plans) r.running) _ m)) (first_so _ _ m)))
+    (λ m. racing_tells (going_on r) back t.named (closed_on old r (Some (length keys)) v c (some_key keys (second_so (has_next (length r.plans) r.running) _ m)) (first_so _ _ m)))
     (λ m. final_tells (gone (ScanEnded false true) r) FinalList (next_final (ScanEnded false true) r FinalList back refl) (inl refl) t.named
     (closed_off old r (Some (length keys)) (ScanEnded false true) (length keys) FinalList _ v c (next_final (ScanEnded false true) r FinalList back refl) (inl refl) (left_final true) (refl, refl, refl) (list_last (index_at old (turn_scan old)) (listed_by None v.ends) (length keys)) refl))
   where
-    right_of_both : (a b : Bool) → (a && b) ≡ true → b ≡ true
-    right_of_both a b h = grind arith
-
     some_key : (keys : List ℕ) → not (nat_eq (length keys) 0) ≡ true → nat_lt 0 (length keys) ≡ true
     some_key keys h = grind (arith, nat_tests)
 

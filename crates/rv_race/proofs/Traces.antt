@@ -4,7 +4,8 @@ use Rattle.std.specs.List.{list_all}
 use Rattle.std.proofs.Math.Seq.{take-append_seam}
 use Rattle.std.proofs.lemmas.List.Folds.{list_any-append}
 use Rattle.std.specs.Cmp.{first_so, second_so}
-use Rattle.rv_value.proofs.Tests.{number_turned}
+use Rattle.std.proofs.lemmas.Bool.{or_from}
+use Rattle.rv_value.proofs.Tests.{number_turned, right_false, left_false}
 use Rattle.rv_judge.specs.declared.events.Control.{Control}
 use Rattle.rv_judge.specs.declared.events.Control.TheVariants.{Building, ForegroundAlone, BackgroundAlone, FinalList, FinalTable, Done}
 use Rattle.rv_judge.specs.declared.events.Event.{Event}
@@ -185,13 +186,11 @@ index_append : (i : ℕ) (xs ys : List ℕ) → has_index i (xs ++ ys) ≡ (has_
 index_append i xs ys = list_any-append (λ (k : ℕ). nat_eq k i) xs ys
 
 pub once_swap : (xs : List ℕ) (a b : ℕ) (ys : List ℕ) → EachOnce (xs ++ a ∷ b ∷ ys) → EachOnce (xs ++ b ∷ a ∷ ys)
-once_swap [] a b ys o = (second (nat_eq b a) (has_index a ys) (has_index b ys) (nat_eq a b) (number_turned a b) o.0 o.1.0, (third (nat_eq b a) (has_index a ys) o.0, o.1.1))
+once_swap [] a b ys o = (second (nat_eq b a) (has_index a ys) (has_index b ys) (nat_eq a b) (number_turned a b) o.0 o.1.0, (right_false (nat_eq b a) (has_index a ys) o.0, o.1.1))
   where
     second : (c d e f : Bool) → f ≡ c → (c || d) ≡ false → e ≡ false → (f || e) ≡ false
     second c d e f s h i = grind arith
 
-    third : (c d : Bool) → (c || d) ≡ false → d ≡ false
-    third c d h = grind arith
 once_swap (x ∷ xs) a b ys o = (index_append x xs (b ∷ a ∷ ys) ∙ same (has_index x xs) (nat_eq a x) (nat_eq b x) (has_index x ys) ∙ sym (index_append x xs (a ∷ b ∷ ys)) ∙ o.0, once_swap xs a b ys o.1)
   where
     same : (p q r s : Bool) → (p || (r || (q || s))) ≡ (p || (q || (r || s)))
@@ -199,31 +198,19 @@ once_swap (x ∷ xs) a b ys o = (index_append x xs (b ∷ a ∷ ys) ∙ same (ha
 
 pub once_apart : (xs : List ℕ) (a : ℕ) (ys : List ℕ) → EachOnce (xs ++ a ∷ ys) → has_index a xs ≡ false
 once_apart [] a ys o = refl
-once_apart (x ∷ xs) a ys o = both_off (nat_eq x a) (has_index a xs) (number_turned x a ∙ off (has_index x xs) (nat_eq a x) (has_index x ys) (sym (index_append x xs (a ∷ ys)) ∙ o.0)) (once_apart xs a ys o.1)
+once_apart (x ∷ xs) a ys o = or_from (nat_eq x a) (has_index a xs) (number_turned x a ∙ off (has_index x xs) (nat_eq a x) (has_index x ys) (sym (index_append x xs (a ∷ ys)) ∙ o.0)) (once_apart xs a ys o.1)
   where
     off : (p q r : Bool) → (p || (q || r)) ≡ false → q ≡ false
     off p q r h = grind arith
 
-    both_off : (a b : Bool) → a ≡ false → b ≡ false → (a || b) ≡ false
-    both_off a b h i = grind arith
-
 -- an index that is not among those of the scans that are over was not dropped
 one_undropped : (i index : ℕ) (keys : Option ℕ) (events : List Event) → nat_eq index i ≡ false → was_dropped i events ≡ false → was_dropped i (Scan index ∷ outcome index keys ∷ events) ≡ false
-one_undropped i index None events other rest = both_off (nat_eq index i) (was_dropped i events) other rest
-  where
-    both_off : (a b : Bool) → a ≡ false → b ≡ false → (a || b) ≡ false
-    both_off a b h k = grind arith
+one_undropped i index None events other rest = or_from (nat_eq index i) (was_dropped i events) other rest
 one_undropped i index (Some n) events other rest = rest
 
 ends_undropped : (i : ℕ) (ends : List Ended) (low : ℕ) → has_index i (ended_indexes ends) ≡ false → was_dropped i (told_ends ends ++ Scan low ∷ []) ≡ false
 ends_undropped i [] low h = refl
-ends_undropped i (e ∷ ends) low h = one_undropped i e.index e.keys (told_ends ends ++ Scan low ∷ []) (left_off (nat_eq e.index i) (has_index i (ended_indexes ends)) h) (ends_undropped i ends low (right_off (nat_eq e.index i) (has_index i (ended_indexes ends)) h))
-  where
-    left_off : (a b : Bool) → (a || b) ≡ false → a ≡ false
-    left_off a b h = grind arith
-
-    right_off : (a b : Bool) → (a || b) ≡ false → b ≡ false
-    right_off a b h = grind arith
+ends_undropped i (e ∷ ends) low h = one_undropped i e.index e.keys (told_ends ends ++ Scan low ∷ []) (left_false (nat_eq e.index i) (has_index i (ended_indexes ends)) h) (ends_undropped i ends low (right_false (nat_eq e.index i) (has_index i (ended_indexes ends)) h))
 
 pub undropped : (i : ℕ) (ends : List Ended) (low : ℕ) → has_index i (ended_indexes ends) ≡ false → was_dropped i (so_far ends ++ Scan low ∷ []) ≡ false
 undropped i ends low h = ends_undropped i ends low h
