@@ -11,6 +11,7 @@ use Rattle.rv_value.specs.declared.record.IndexEntry.{IndexEntry}
 use Rattle.rv_value.specs.declared.range.Range.{Range}
 use Rattle.std.specs.Option.{option_map}
 use Rattle.std.proofs.lemmas.List.{length-map}
+use Rattle.std.proofs.Math.Bool.{and-false}
 use Rattle.rv_value.proofs.Lists.{passes_take}
 use Rattle.rv_value.specs.declared.record.RowNo.{RowNo}
 use Rattle.rv_value.proofs.Same.{equal_values, values_turned}
@@ -37,12 +38,8 @@ null_apart columns s r null = elim (cases_Bool (same_values (key_of columns r.va
       let is = equal_values (key_of columns r.values) (key_of columns s.values) t in
       let null_too : list_any is_null (key_of columns s.values) ≡ true = ap (list_any is_null) (sym is) ∙ null in
       rw null_too refl
-  | inr f ↦ rw f (and_false (not (list_any is_null (key_of columns s.values))))
+  | inr f ↦ rw f (and-false (not (list_any is_null (key_of columns s.values))))
 ]
-  where
-    and_false : (b : Bool) → (b && false) ≡ false
-    and_false true = refl
-    and_false false = refl
 
 pub null_none : (columns : List ℕ) (r : Record) (rows : List Record) → list_any is_null (key_of columns r.values) ≡ true → false ≡ list_any (λ (s : Record). are_equal columns s r) rows
 null_none columns r [] null = refl

@@ -3,6 +3,7 @@ use Rattle.std.proofs.Common.{◌≡◌, ℕ, List, [], ◌∷◌, ◌++◌, Boo
 use Rattle.std.proofs.lemmas.Bool.{cases_Bool}
 use Rattle.std.specs.List.{flat_map, list_any}
 use Rattle.std.specs.Option.{option_map}
+use Rattle.std.proofs.Math.Bool.{and-false, and_comm}
 use Rattle.rv_value.specs.declared.value.Value.{Value}
 use Rattle.rv_value.specs.declared.record.Record.{Record}
 use Rattle.rv_value.specs.declared.record.RowNo.{RowNo}
@@ -29,11 +30,7 @@ use Rattle.rv_rivals.proofs.Numbers.{none_written}
 -- A row with NULL in its key has no rival.
 
 not_rival : (columns : List ℕ) (r : Record) (n : Record) → list_any is_null (key_of columns r.values) ≡ true → is_rival columns r n ≡ false
-not_rival columns r n null = rw null (and_false (not (n.row.0 == r.row.0)))
-  where
-    and_false : (b : Bool) → (b && false) ≡ false
-    and_false true = refl
-    and_false false = refl
+not_rival columns r n null = rw null (and-false (not (n.row.0 == r.row.0)))
 
 none_found : (p : Neighbour → Bool) (near : List Neighbour) → ((n : Neighbour) → p n ≡ false) → find p near ≡ None
 none_found p [] h = refl
@@ -48,13 +45,7 @@ abbrev shown : Neighbour → Refusal
 shown n = Duplicate n.row.row n.at
 
 rival_is : (columns : List ℕ) (r n : Record) → list_any is_null (key_of columns r.values) ≡ false → is_rival columns r n ≡ (has_key columns (key_of columns r.values) n && other_than r.row.0 n.row.0)
-rival_is columns r n whole = rw whole (turned (not (n.row.0 == r.row.0)) (has_key columns (key_of columns r.values) n))
-  where
-    turned : (a b : Bool) → (a && b) ≡ (b && a)
-    turned true true = refl
-    turned true false = refl
-    turned false true = refl
-    turned false false = refl
+rival_is columns r n whole = rw whole (and_comm (not (n.row.0 == r.row.0)) (has_key columns (key_of columns r.values) n))
 
 -- rows that stand somewhere
 found_placed : (at : RowNo → Rival) (p : Record → Bool) (rows : List Record) → option_map shown (find (λ (n : Neighbour). p n.row) (placed (λ (r : Record). at r.row) rows)) ≡ shown_at at (option_map (λ (r : Record). r.row) (find p rows))

@@ -4,6 +4,7 @@ use Rattle.std.proofs.lemmas.Bool.{cases_Bool, and_parts}
 use Rattle.std.proofs.lemmas.Bool.Decides.{nat_tests}
 use Rattle.std.specs.List.{list_all, list_any}
 use Rattle.std.specs.Option.{option_map}
+use Rattle.std.proofs.Math.Bool.{or-false}
 use Rattle.rv_reader.proofs.Rows.{applied_ascends}
 use Rattle.rv_value.specs.declared.value.Value.{Value}
 use Rattle.rv_value.specs.declared.record.Record.{Record}
@@ -117,12 +118,8 @@ or_turned true false c = refl
 or_turned false true c = refl
 or_turned false false c = refl
 
-or_none : (b : Bool) → b ≡ (b || false)
-or_none true = refl
-or_none false = refl
-
 pub has_further : (table n : ℕ) (new cs : List Change) → has_change table n (with_changes new cs) ≡ (has_change table n cs || has_change table n new)
-has_further table n [] cs = or_none (has_change table n cs)
+has_further table n [] cs = sym (or-false (has_change table n cs))
 has_further table n (c ∷ new) cs =
     has_further table n new (with_change c cs) ∙ ap (λ b. b || has_change table n new) (has_one table n c cs) ∙ or_turned (is_of table n c) (has_change table n cs) (has_change table n new)
 

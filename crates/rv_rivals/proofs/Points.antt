@@ -1,6 +1,6 @@
 -- The range of a key.
 use Rattle.std.proofs.Common.{◌≡◌, ℕ, List, [], ◌∷◌, Bool, true, false, not, cond, inl, inr, refl, ap, sym, ◌∙◌, filter, map, length, arith, nat_lt}
-use Rattle.std.proofs.lemmas.Bool.{cases_Bool, and_parts}
+use Rattle.std.proofs.lemmas.Bool.{cases_Bool, and_parts, not-true}
 use Rattle.std.proofs.lemmas.Bool.Decides.{nat_tests}
 use Rattle.std.specs.List.{list_all}
 use Rattle.std.specs.Ordering.{is_eq, is_lt, nat_cmp}
@@ -45,12 +45,8 @@ front_in : (e : IndexEntry) (ys : List IndexEntry) → list_all (λ y. not (come
 front_in e [] all = refl
 front_in e (y ∷ ys) all =
     let parts = and_parts (not (comes_before y e)) (list_all (λ x. not (comes_before x e)) ys) all in
-    let no : comes_before y e ≡ false = turned (comes_before y e) parts.0 in
+    let no : comes_before y e ≡ false = not-true (comes_before y e) parts.0 in
     rw no refl
-  where
-    turned : (b : Bool) → not b ≡ true → b ≡ false
-    turned true h = cc
-    turned false h = refl
 
 filter_in : (p : IndexEntry → Bool) (e : IndexEntry) (xs : List IndexEntry) → Ascend xs → filter p (sorted_in e xs) ≡ cond (p e) (sorted_in e (filter p xs)) (filter p xs)
 filter_in p e [] ascend = refl

@@ -1,8 +1,9 @@
 -- A row and a place more were tested.
-use Rattle.std.proofs.Common.{◌≡◌, ℕ, zero, suc, List, [], ◌∷◌, ◌++◌, Option, Some, None, Result, Ok, Err, refl, ap, sym, ◌∙◌, arith, drop, map, Bool, true, false, ◌&&◌, ◌||◌, ◌==◌}
+use Rattle.std.proofs.Common.{◌≡◌, ℕ, zero, suc, List, [], ◌∷◌, ◌++◌, Option, Some, None, Result, Ok, Err, refl, ap, sym, ◌∙◌, arith, drop, map, true, ◌&&◌, ◌||◌, ◌==◌}
 use Rattle.std.specs.Prelude.{slice_get}
 use Rattle.std.specs.List.{AllByRecursion}
 use Rattle.std.proofs.lemmas.Bool.Decides.{nat_tests}
+use Rattle.std.proofs.Math.Bool.{or-true}
 use Rattle.rv_lang.specs.declared.reply.Refusal.{Refusal}
 use Rattle.rv_lang.specs.declared.reply.Rival.{Rival}
 use Rattle.rv_value.specs.declared.value.Value.{Value}
@@ -116,8 +117,4 @@ has_at table (d ∷ ds) zero c is of =
     let tables = of.0 in
     let here : ((d.table == table) && (d.row.0 == c.row.0)) ≡ true = grind (arith, nat_tests, rows, tables) in
     ap (λ b. b || has_change table c.row.0 ds) here
-has_at table (d ∷ ds) (suc k) c is of = ap (λ b. ((d.table == table) && (d.row.0 == c.row.0)) || b) (has_at table ds k c is of.1) ∙ or_true ((d.table == table) && (d.row.0 == c.row.0))
-  where
-    or_true : (b : Bool) → (b || true) ≡ true
-    or_true true = refl
-    or_true false = refl
+has_at table (d ∷ ds) (suc k) c is of = ap (λ b. ((d.table == table) && (d.row.0 == c.row.0)) || b) (has_at table ds k c is of.1) ∙ or-true ((d.table == table) && (d.row.0 == c.row.0))
