@@ -11,9 +11,9 @@ use Rattle.std.proofs.lemmas.Bool.{and_parts, not-false, not-true}
 use Rattle.std.proofs.lemmas.Option.{same_Some}
 use Rattle.rv_value.proofs.Lists.{passes_at}
 use Rattle.rv_rows.specs.Rising.{Rising, put_in}
-use Rattle.rv_rows.proofs.Puts.{filter_all, put_first, put_same, put_more, rising_put}
+use Rattle.rv_rows.proofs.Puts.{all_behind, filter_all, none_before, put_first, put_same, put_more, rising_put}
 use Rattle.rv_blocks.specs.Taking.{take_from, standing, is_level}
-use Rattle.rv_blocks.proofs.Places.{chain_of, alike, none_before, all_behind}
+use Rattle.rv_blocks.proofs.Places.{chain_of, alike}
 
 turns_tail : {X : Type 0} (p : X → Bool) (x : X) (xs : List X) (k : ℕ) → Turns p (x ∷ xs) (suc k) → Turns p xs k
 turns_tail p x xs zero t = record {
