@@ -1,9 +1,10 @@
 -- The choice among the indexes: the least one, what candidates are, and what the background's scans and the foreground are.
-use Rattle.std.proofs.Common.{◌≡◌, ℕ, ◌+◌, ◌<◌, ◌≤◌, ◌⊎◌, List, [], ◌∷◌, ◌++◌, cond, length, Bool, true, false, not, ◌&&◌, refl, ap, sym, ◌∙◌, arith, subst, Some, None, Option, nat_eq, nat_lt, inl, inr, map, filter, take, ◌||◌}
-use Rattle.std.proofs.lemmas.Bool.{cases_Bool}
+use Rattle.std.proofs.Common.{◌≡◌, ℕ, ◌+◌, ◌<◌, ◌≤◌, ◌⊎◌, List, [], ◌∷◌, ◌++◌, cond, length, Bool, true, false, not, refl, ap, sym, ◌∙◌, arith, subst, Some, None, Option, nat_eq, nat_lt, inl, inr, map, filter, take, ◌||◌}
+use Rattle.std.proofs.lemmas.Bool.{cases_Bool, ltb-true, eqb-true}
 use Rattle.std.proofs.lemmas.Bool.Decides.{nat_tests}
 use Rattle.std.specs.Cmp.Lexicographic.{pointwise}
 use Rattle.std.specs.List.{AllByRecursion, starts_with}
+use Rattle.std.specs.Cmp.{first_so, second_so}
 use Rattle.rv_restrict.specs.Parts.{stands_among}
 use Rattle.rv_restrict.specs.Ranges.{range_for}
 use Rattle.rv_reader.specs.Shown.{Shown}
@@ -17,13 +18,10 @@ use Rattle.rv_choice.specs.Choice.{FirstLeast, LeastBelow, NonePlays, candidate_
 
 pub either_below : {X : Type 0} (i k : ℕ) → i < k + 1 → (i < k → X) → (i ≡ k → X) → X
 either_below i k l f g = elim (cases_Bool (nat_lt i k)) [
-  | inl below ↦ f (is_less i k below)
+  | inl below ↦ f (ltb-true i k below)
   | inr other ↦ g (is_same i k l other)
 ]
   where
-    is_less : (i k : ℕ) → nat_lt i k ≡ true → i < k
-    is_less i k h = grind (arith, nat_tests)
-
     is_same : (i k : ℕ) → i < k + 1 → nat_lt i k ≡ false → i ≡ k
     is_same i k l h = grind (arith, nat_tests)
 
@@ -58,15 +56,12 @@ least_changes role cs k at l p less = record {
   behind = λ i a b q. absurd (omega arith);
 }
   where
-    is_less : (i k : ℕ) → nat_lt i k ≡ true → i < k
-    is_less i k h = grind (arith, nat_tests)
-
     is_same : (i k : ℕ) → nat_lt i k ≡ false → nat_lt k i ≡ false → i ≡ k
     is_same i k g h = grind (arith, nat_tests)
 
     before : (i : ℕ) → i < k → plays role (candidate_at cs i) ≡ true → ((nat_lt i at ≡ true) ⊎ (nat_lt i at ≡ false)) → ((nat_lt at i ≡ true) ⊎ (nat_lt at i ≡ false)) → (candidate_at cs k).estimate.value < (candidate_at cs i).estimate.value
-    before i b q (inl h) g = let m = l.before i (is_less i at h) q in omega arith
-    before i b q (inr h) (inl g) = let m = l.behind i (is_less at i g) b q in omega arith
+    before i b q (inl h) g = let m = l.before i (ltb-true i at h) q in omega arith
+    before i b q (inr h) (inl g) = let m = l.behind i (ltb-true at i g) b q in omega arith
     before i b q (inr h) (inr g) = subst (λ (x : ℕ). (candidate_at cs k).estimate.value < (candidate_at cs x).estimate.value) (sym (is_same i at h g)) less
 
 -- one with no lesser estimate
@@ -92,19 +87,10 @@ are_candidates query shown (i ∷ is) all = (record { index_of = all.0; its_rang
 pub stand_all : (columns need : List ℕ) (c : ℕ) → has_all columns need ≡ true → stands_among need c ≡ true → stands_among columns c ≡ true
 stand_all columns [] c all s = absurd (cc)
 stand_all columns (n ∷ need) c all s = elim (cases_Bool (nat_eq n c)) [
-  | inl here ↦ subst (λ (x : ℕ). stands_among columns x ≡ true) (number n c here) (first (stands_among columns n) (has_all columns need) all)
-  | inr other ↦ stand_all columns need c (second (stands_among columns n) (has_all columns need) all) (behind (nat_eq n c) (stands_among need c) other s)
+  | inl here ↦ subst (λ (x : ℕ). stands_among columns x ≡ true) (eqb-true n c here) (first_so (stands_among columns n) (has_all columns need) all)
+  | inr other ↦ stand_all columns need c (second_so (stands_among columns n) (has_all columns need) all) (behind (nat_eq n c) (stands_among need c) other s)
 ]
   where
-    number : (a b : ℕ) → nat_eq a b ≡ true → a ≡ b
-    number a b h = grind (arith, nat_tests)
-
-    first : (a b : Bool) → (a && b) ≡ true → a ≡ true
-    first a b h = grind arith
-
-    second : (a b : Bool) → (a && b) ≡ true → b ≡ true
-    second a b h = grind arith
-
     behind : (a b : Bool) → a ≡ false → (a || b) ≡ true → b ≡ true
     behind a b h i = grind arith
 
@@ -113,26 +99,14 @@ same_numbers : (xs ys : List ℕ) → pointwise nat_eq xs ys ≡ true → ys ≡
 same_numbers [] [] h = refl
 same_numbers [] (y ∷ ys) h = absurd (cc)
 same_numbers (x ∷ xs) [] h = absurd (cc)
-same_numbers (x ∷ xs) (y ∷ ys) h = two x y xs ys (head (nat_eq x y) (pointwise nat_eq xs ys) h) (same_numbers xs ys (tail (nat_eq x y) (pointwise nat_eq xs ys) h))
+same_numbers (x ∷ xs) (y ∷ ys) h = two x y xs ys (first_so (nat_eq x y) (pointwise nat_eq xs ys) h) (same_numbers xs ys (second_so (nat_eq x y) (pointwise nat_eq xs ys) h))
   where
-    head : (a b : Bool) → (a && b) ≡ true → a ≡ true
-    head a b h = grind arith
-
-    tail : (a b : Bool) → (a && b) ≡ true → b ≡ true
-    tail a b h = grind arith
-
     two : (x y : ℕ) (xs ys : List ℕ) → nat_eq x y ≡ true → ys ≡ xs → (y ∷ ys) ≡ (x ∷ xs)
-    two x y xs ys h e = let n : x ≡ y = number x y h in ap (λ (z : ℕ). z ∷ ys) (sym n) ∙ ap (λ (zs : List ℕ). x ∷ zs) e
-      where
-        number : (a b : ℕ) → nat_eq a b ≡ true → a ≡ b
-        number a b h = grind (arith, nat_tests)
+    two x y xs ys h e = let n : x ≡ y = eqb-true x y h in ap (λ (z : ℕ). z ∷ ys) (sym n) ∙ ap (λ (zs : List ℕ). x ∷ zs) e
 
 -- an index that leads begins with the order columns
 pub leads_begins : (order columns : List ℕ) → leads order columns ≡ true → take (length order) columns ≡ order
-leads_begins order columns h = same_numbers order (take (length order) columns) (second (not (nat_eq (length order) 0)) (starts_with nat_eq columns order) h)
-  where
-    second : (a b : Bool) → (a && b) ≡ true → b ≡ true
-    second a b h = grind arith
+leads_begins order columns h = same_numbers order (take (length order) columns) (second_so (not (nat_eq (length order) 0)) (starts_with nat_eq columns order) h)
 
 -- the scans of one more candidate
 pub plans_more : (only : List (List Atom)) (background : Background) (c : Candidate) (cs : List Candidate) → plans_of only background (c ∷ cs) ≡ plans_of only background (c ∷ []) ++ plans_of only background cs
