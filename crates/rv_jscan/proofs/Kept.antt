@@ -1,10 +1,11 @@
 -- What a list keeps of a leaf, one more entry at a time.
 use Rattle.std.proofs.Common.{◌≡◌, ℕ, ◌+◌, ◌<◌, List, [], ◌∷◌, ◌++◌, length, take, drop, slice_index_or, map, filter, Bool, true, false, cond, ◌&&◌, ◌||◌, refl, ap, sym, ◌∙◌, arith, subst, append_assoc, nat_eq, inl, inr, Option, Some, None, IfSome}
 use Rattle.std.specs.Prelude.{if◌then◌else◌}
-use Rattle.std.proofs.lemmas.Bool.{cases_Bool, and_right}
+use Rattle.std.proofs.lemmas.Bool.{cases_Bool, and_right, and_left}
 use Rattle.std.proofs.lemmas.Bool.Decides.{nat_tests}
 use Rattle.std.proofs.lemmas.List.{take_more, drop_more, map-append}
 use Rattle.std.proofs.lemmas.List.Elements.{filter-append}
+use Rattle.rv_value.proofs.Tests.{other_false}
 use Rattle.rv_value.specs.declared.record.IndexEntry.{IndexEntry}
 use Rattle.rv_value.specs.declared.record.RowNo.{RowNo}
 use Rattle.rv_restrict.specs.Parts.{Parted, passes}
@@ -115,15 +116,9 @@ fresh_after building admits part entries after a d n =
 pub narrowed_fresh : (p : ℕ → Bool) (keys : List ℕ) (entries : List IndexEntry) → Disjoint keys entries → Disjoint (filter p keys) entries
 narrowed_fresh p keys entries d n =
     elim (cases_Bool (has_key n keys)) [
-      | inl here ↦ and_right _ _ (off _ _ here (d n))
-      | inr other ↦ gone _ _ (none_stays p n keys other)
+      | inl here ↦ and_right _ _ (other_false _ _ here (d n))
+      | inr other ↦ and_left _ _ (none_stays p n keys other)
     ]
-  where
-    off : (a b : Bool) → a ≡ true → (a && b) ≡ false → b ≡ false
-    off a b h d = grind arith
-
-    gone : (a b : Bool) → a ≡ false → (a && b) ≡ false
-    gone a b h = grind arith
 
 pub narrowed_held : (list keys new : List ℕ) (held : Option Chunk) → new ≡ filter (λ k. may_key k list) keys → IfSome held (λ h. Disjoint keys h.entries) → IfSome held (λ h. Disjoint new h.entries)
 narrowed_held list keys new None e f = tt
