@@ -1,6 +1,6 @@
 -- No key is in an empty range.
 use Rattle.std.proofs.Common.{◌≤◌, ◌≡◌, List, [], ◌∷◌, Bool, true, false, not, ◌&&◌, Option, Some, None, length, take, refl, ap, sym, ◌∙◌, arith, Ordering, nat_eq, nat_le, inl, inr}
-use Rattle.std.proofs.lemmas.Bool.{cases_Bool, leb-true, and_parts, eqb-true}
+use Rattle.std.proofs.lemmas.Bool.{cases_Bool, leb-true, and_parts, eqb-true, not-false}
 use Rattle.std.specs.Ordering.{ordering_reverse, ordering_then}
 use Rattle.std.specs.declared.cmp.Ordering.TheVariants.{Less, Equal, Greater}
 use Rattle.rv_value.specs.declared.value.Value.{Value}
@@ -22,16 +22,12 @@ prefix_take (x ∷ xs) (y ∷ ys) l = ap (ordering_then (value_cmp x y)) (prefix
 not_crossed : (k low high : List Value) (a b : Bool) → falls_under (values_cmp k low) a ≡ false → goes_over (values_cmp k high) b ≡ false → crosses (values_cmp low high) (a && b) ≡ false
 not_crossed k low high a b under over = go (values_cmp k low) refl (values_cmp k high) refl
   where
-    closed : (x : Bool) → not x ≡ false → x ≡ true
-    closed true h = refl
-    closed false h = cc
-
     go : (p : Ordering) → values_cmp k low ≡ p → (q : Ordering) → values_cmp k high ≡ q → crosses (values_cmp low high) (a && b) ≡ false
     go Less e q f = let no : falls_under (values_cmp k low) a ≡ true = rw e refl in cc
     go Equal e Less f = rw (sym (values_cmp_total.congr k low high e) ∙ f) refl
     go Equal e Equal f =
-        let ca : a ≡ true = closed a (rw e at under) in
-        let cb : b ≡ true = closed b (rw f at over) in
+        let ca : a ≡ true = not-false a (rw e at under) in
+        let cb : b ≡ true = not-false b (rw f at over) in
         rw (sym (values_cmp_total.congr k low high e) ∙ f, ca, cb) refl
     go Equal e Greater f = let no : goes_over (values_cmp k high) b ≡ true = rw f refl in cc
     go Greater e Less f =

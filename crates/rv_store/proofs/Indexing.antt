@@ -1,6 +1,6 @@
 -- What a change of a table's rows makes of the sorted entries of an index.
 use Rattle.std.proofs.Common.{◌≡◌, ℕ, ◌≤◌, List, [], ◌∷◌, ◌++◌, Bool, true, false, not, ◌&&◌, ◌||◌, ◌==◌, cond, refl, ap, sym, ◌∙◌, inl, inr, arith, subst, filter, map, nat_lt, Option, Some, None}
-use Rattle.std.proofs.lemmas.Bool.{cases_Bool, and_parts}
+use Rattle.std.proofs.lemmas.Bool.{cases_Bool, and_parts, not-true}
 use Rattle.std.proofs.lemmas.Bool.Decides.{nat_tests}
 use Rattle.std.proofs.lemmas.List.{map-append}
 use Rattle.std.specs.List.{list_all}
@@ -69,13 +69,9 @@ first_in e p (x ∷ xs) all =
     let parts = and_parts (not (comes_before x e)) (list_all (λ y. not (comes_before y e)) xs) all in
     let rest = first_in e p xs parts.1 in
     elim (p x) as (λ b. sorted_in e (cond b (x ∷ filter p xs) (filter p xs)) ≡ e ∷ cond b (x ∷ filter p xs) (filter p xs)) [
-      | true ↦ rw (turned (comes_before x e) parts.0) refl
+      | true ↦ rw (not-true (comes_before x e) parts.0) refl
       | false ↦ rest
     ]
-  where
-    turned : (b : Bool) → not b ≡ true → b ≡ false
-    turned true f = cc
-    turned false f = refl
 
 kept_in : (p : IndexEntry → Bool) (e : IndexEntry) (xs : List IndexEntry) → p e ≡ true → Ascend xs → filter p (sorted_in e xs) ≡ sorted_in e (filter p xs)
 kept_in p e [] h ascend = rw h refl
