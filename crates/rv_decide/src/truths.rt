@@ -2,13 +2,13 @@
 //! the first items decide.
 ghost use Rattle.std.specs.Prelude.{◌≡◌, true};
 ghost use Rattle.rv_value.specs.declared.value.Value.TheVariants.{Null};
-ghost use Rattle.rv_restrict.specs.Bind.{atom_place, group_place, operand_place, rows_reads, taken};
+ghost use Rattle.rv_restrict.specs.Bind.{rows_reads, taken};
 ghost use Rattle.rv_restrict.specs.Groups.{groups_of};
 ghost use Rattle.rv_restrict.specs.Truth.{group_names_only, group_truth, is_null, is_true, names_only, truth_by};
 ghost use Rattle.rv_model.specs.Offering.{is_kept};
 ghost use Rattle.rv_decide.specs.Choosing.{may_go_on};
 
-use rv_restrict::{Atom, ColRef, Operand, Reads, Restriction, Tri};
+use rv_restrict::{Atom, ColRef, Reads, Restriction, Tri, highest_place};
 use rv_value::{Value, Values};
 
 /// One row for each place. It has any column: one that a row lacks is NULL.
@@ -55,7 +55,7 @@ pub fn may_go_on(only: &Restriction, rows: &[Values]) -> bool
 }
 
 /// Whether the groups are True whose highest place is this one. It ends at the first that is not.
-#[tactic(auto, using(crate::proofs::Early::true_lesser))]
+#[tactic(auto, using(rv_restrict::proofs::Below::true_lesser))]
 fn are_true_at<R: Reads>(groups: &[Vec<Atom>], place: usize, rows: &R) -> bool
     requires { names_only (R.has rows.now) (groups_of groups.now) ≡ true }
     ensures { result ≡ is_true (truth_by (R.reads rows.now) (taken place (groups_of groups.now))) }
@@ -63,7 +63,9 @@ fn are_true_at<R: Reads>(groups: &[Vec<Atom>], place: usize, rows: &R) -> bool
     match groups {
         [] => true,
         [group, more @ ..] => {
-            if highest(group.as_slice()) as usize == place && !is_true(group.as_slice(), rows) {
+            if highest_place(group.as_slice()) as usize == place
+                && !is_true(group.as_slice(), rows)
+            {
                 return false;
             }
             are_true_at(more, place, rows)
@@ -83,42 +85,6 @@ fn is_true<R: Reads>(atoms: &[Atom], rows: &R) -> bool
             Tri::True => true,
             Tri::False | Tri::Unknown => is_true(more, rows),
         },
-    }
-}
-
-/// The highest place that a group names, 0 where it names none.
-fn highest(atoms: &[Atom]) -> u32
-    ensures { result ≡ group_place atoms.now }
-{
-    match atoms {
-        [] => 0,
-        [atom, more @ ..] => highest_of_atom(atom).max(highest(more)),
-    }
-}
-
-fn highest_of_atom(atom: &Atom) -> u32
-    ensures { result ≡ atom_place atom.now }
-{
-    match atom {
-        Atom::Compare {
-            column,
-            op: _,
-            operand,
-        } => column.place.max(highest_of_operand(operand)),
-        Atom::Between { column, .. } => column.place,
-        Atom::Among { column, .. } => column.place,
-        Atom::IsNull { column, .. } => column.place,
-        Atom::Starts { column, .. } => column.place,
-        Atom::Const(_) => 0,
-    }
-}
-
-fn highest_of_operand(operand: &Operand) -> u32
-    ensures { result ≡ operand_place operand.now }
-{
-    match operand {
-        Operand::Literal(_) => 0,
-        Operand::Column(column) => column.place,
     }
 }
 

@@ -4,7 +4,7 @@ use Rattle.std.specs.List.{AllByRecursion, list_all, list_any}
 use Rattle.std.proofs.lemmas.Bool.Decides.{nat_tests}
 use Rattle.std.proofs.lemmas.Grind.{common_steps}
 use Rattle.std.proofs.lemmas.List.{get_or_append_left}
-use Rattle.std.proofs.lemmas.Bool.{and_from, or_right}
+use Rattle.std.proofs.lemmas.Bool.{and_from, or_right, lt-ltb}
 use Rattle.std.specs.Cmp.{first_so, second_so}
 use Rattle.std.proofs.lemmas.List.Elements.{filter_agree}
 use Rattle.rv_value.specs.declared.value.Value.{Value}
@@ -143,14 +143,11 @@ wide_more a shown outer row can inside wide c le u = elim (nat_lt c.place (lengt
     there : (q : ℕ) → nat_lt q (length outer) ≡ false → q < length outer + 1 → q ≡ length outer
     there q e h = grind (arith, nat_tests, e, h)
 
-    less : (q n : ℕ) → q < n → nat_lt q n ≡ true
-    less q n h = grind (arith, nat_tests, h)
-
     front : c.place < length outer → rows_has (outer ++ last ∷ []) c ≡ true
-    front h = and_from (nat_lt c.place (length (outer ++ last ∷ []))) (nat_lt c.column (length (slice_index_or (outer ++ last ∷ []) c.place []))) (less _ _ le) (let same = get_or_append_left outer (last ∷ []) [] c.place h in rw same (second_so (nat_lt c.place (length outer)) (nat_lt c.column (length (slice_index_or outer c.place []))) (wide c h u)))
+    front h = and_from (nat_lt c.place (length (outer ++ last ∷ []))) (nat_lt c.column (length (slice_index_or (outer ++ last ∷ []) c.place []))) (lt-ltb _ _ le) (let same = get_or_append_left outer (last ∷ []) [] c.place h in rw same (second_so (nat_lt c.place (length outer)) (nat_lt c.column (length (slice_index_or outer c.place []))) (wide c h u)))
 
     behind : c.place ≡ length outer → rows_has (outer ++ last ∷ []) c ≡ true
-    behind e = and_from (nat_lt c.place (length (outer ++ last ∷ []))) (nat_lt c.column (length (slice_index_or (outer ++ last ∷ []) c.place []))) (less _ _ le) (rw (e, last_row outer last []) (less c.column (length last) (reached (widened_long (width (item_at a (length outer)).need) row) (below_width (item_at a (length outer)).need c.column ((can.each (length outer) inside).need c.column (subst (λ q. asked_uses a (col_at q c.column) ≡ true) e u))))))
+    behind e = and_from (nat_lt c.place (length (outer ++ last ∷ []))) (nat_lt c.column (length (slice_index_or (outer ++ last ∷ []) c.place []))) (lt-ltb _ _ le) (rw (e, last_row outer last []) (lt-ltb c.column (length last) (reached (widened_long (width (item_at a (length outer)).need) row) (below_width (item_at a (length outer)).need c.column ((can.each (length outer) inside).need c.column (subst (λ q. asked_uses a (col_at q c.column) ≡ true) e u))))))
       where
         reached : {q n m : ℕ} → n ≤ m → q < n → q < m
         reached h i = omega (arith, h, i)

@@ -1,22 +1,18 @@
 -- Nested loops over bound restrictions give the offers of the definition, in the same order.
-use Rattle.std.proofs.Common.{◌≡◌, ℕ, ◌+◌, ◌<◌, List, [], ◌∷◌, ◌++◌, filter, length, map, Bool, true, false, not, cond, ◌&&◌, ◌||◌, ◌==◌, refl, ap, sym, ◌∙◌, arith, subst, nat_le, nat_lt, max, slice_index_or, suc}
+use Rattle.std.proofs.Common.{◌≡◌, ℕ, ◌+◌, List, [], ◌∷◌, ◌++◌, filter, length, map, Bool, true, false, not, cond, ◌&&◌, ◌||◌, ◌==◌, refl, ap, sym, ◌∙◌, arith, subst, nat_le, nat_lt, suc}
 use Rattle.std.specs.List.{list_all, flat_map}
-use Rattle.std.proofs.lemmas.List.{append_assoc, get_or_append_left, append-nil, map-append}
+use Rattle.std.proofs.lemmas.List.{append_assoc, append-nil, map-append}
 use Rattle.std.proofs.lemmas.Bool.Decides.{nat_tests}
 use Rattle.std.proofs.lemmas.Grind.{common_steps}
-use Rattle.std.proofs.lemmas.Bool.{and_from, lt-ltb}
 use Rattle.std.proofs.lemmas.List.Elements.{filter-append}
 use Rattle.rv_value.specs.declared.value.Value.{Value}
-use Rattle.rv_value.specs.declared.value.Value.TheVariants.{Null}
 use Rattle.rv_value.specs.declared.record.Record.{Record}
 use Rattle.rv_restrict.specs.declared.atom.ColRef.{ColRef}
-use Rattle.rv_restrict.specs.declared.atom.Operand.TheVariants.{Literal, Column}
 use Rattle.rv_restrict.specs.declared.atom.Atom.{Atom}
-use Rattle.rv_restrict.specs.declared.atom.Atom.TheVariants.{Compare, Between, Among, IsNull, Starts, Const}
-use Rattle.rv_restrict.specs.declared.atom.Tri.{Tri}
-use Rattle.rv_restrict.specs.declared.atom.Tri.TheVariants.{True, False, Unknown}
-use Rattle.rv_restrict.specs.Bind.{atom_place, group_place, rows_reads, taken}
-use Rattle.rv_restrict.specs.Truth.{atom_names_only, group_names_only, group_truth, is_true, lesser, names_only, truth_by}
+use Rattle.rv_restrict.specs.declared.atom.Tri.TheVariants.{True}
+use Rattle.rv_restrict.specs.Bind.{group_place, rows_reads, taken}
+use Rattle.rv_restrict.specs.Truth.{group_truth, is_true, truth_by}
+use Rattle.rv_restrict.proofs.Below.{reads_front, taken_below, true_lesser}
 use Rattle.rv_restrict.proofs.Names.{truth_same}
 use Rattle.rv_reader.specs.Shown.{Shown}
 use Rattle.rv_join.specs.declared.places.Asked.{Asked}
@@ -41,43 +37,6 @@ choices_same rows (t ∷ ts) outer p q h = all (λ r. choices_same rows ts (oute
 
 -- The groups of a place read no row after it.
 
-max_left : (a b n : ℕ) → max a b < n → a < n
-max_left a b n h = grind (arith, h)
-
-max_right : (a b n : ℕ) → max a b < n → b < n
-max_right a b n h = grind (arith, h)
-
-atom_below : (n : ℕ) (a : Atom) → atom_place a < n → atom_names_only (λ (c : ColRef). nat_lt c.place n) a ≡ true
-atom_below n (Compare c op (Literal v)) h = and_from (nat_lt c.place n) true (lt-ltb c.place n (max_left c.place 0 n h)) refl
-atom_below n (Compare c op (Column d)) h = and_from (nat_lt c.place n) (nat_lt d.place n) (lt-ltb c.place n (max_left c.place d.place n h)) (lt-ltb d.place n (max_right c.place d.place n h))
-atom_below n (Between c low high) h = lt-ltb c.place n h
-atom_below n (Among c list) h = lt-ltb c.place n h
-atom_below n (IsNull c negated) h = lt-ltb c.place n h
-atom_below n (Starts c text) h = lt-ltb c.place n h
-atom_below n (Const t) h = refl
-
-group_below : (n : ℕ) (g : List Atom) → group_place g < n → group_names_only (λ (c : ColRef). nat_lt c.place n) g ≡ true
-group_below n [] h = refl
-group_below n (a ∷ g) h = and_from (atom_names_only (λ (c : ColRef). nat_lt c.place n) a) (group_names_only (λ (c : ColRef). nat_lt c.place n) g) (atom_below n a (max_left (atom_place a) (group_place g) n h)) (group_below n g (max_right (atom_place a) (group_place g) n h))
-
-taken_below : (n place : ℕ) (only : List (List Atom)) → place < n → names_only (λ (c : ColRef). nat_lt c.place n) (taken place only) ≡ true
-taken_below n place [] le = refl
-taken_below n place (g ∷ only) le =
-    let tail = taken_below n place only le in
-    elim (group_place g == place) as (λ b. (group_place g == place) ≡ b → names_only (λ (c : ColRef). nat_lt c.place n) (cond b (g ∷ taken place only) (taken place only)) ≡ true) [
-      | true ↦ λ e. and_from (group_names_only (λ (c : ColRef). nat_lt c.place n) g) (names_only (λ (c : ColRef). nat_lt c.place n) (taken place only)) (group_below n g (here (group_place g) e)) tail
-      | false ↦ λ e. tail
-    ] refl
-  where
-    here : (p : ℕ) → (p == place) ≡ true → p < n
-    here p e = grind (arith, nat_tests, e, le)
-
-reads_front : (outer more : List (List Value)) (c : ColRef) → nat_lt c.place (length outer) ≡ true → rows_reads (outer ++ more) c ≡ rows_reads outer c
-reads_front outer more c h = ap (λ (row : List Value). slice_index_or row c.column Null) (get_or_append_left outer more [] c.place (below c.place h))
-  where
-    below : (p : ℕ) → nat_lt p (length outer) ≡ true → p < length outer
-    below p h = grind (arith, nat_tests, h)
-
 holds_front : (only : List (List Atom)) (place : ℕ) (outer more : List (List Value)) → length outer ≡ place + 1 → holds only place (outer ++ more) ≡ holds only place outer
 holds_front only place outer more long = ap is_true (truth_same (rows_reads (outer ++ more)) (rows_reads outer) (λ (c : ColRef). nat_lt c.place (length outer)) (reads_front outer more) (taken place only) (taken_below (length outer) place only (omega (arith, long))))
 
@@ -86,13 +45,6 @@ holds_front only place outer more long = ap is_true (truth_same (rows_reads (out
 -- the groups of this place and those after it are True
 abbrev later : List (List Atom) → ℕ → List (List Value) → Bool
 later only place rows = list_all (λ (g : List Atom). not (nat_le place (group_place g)) || is_true (group_truth (rows_reads rows) g)) only
-
-true_lesser : (x y : Tri) → is_true (lesser x y) ≡ (is_true x && is_true y)
-true_lesser True y = refl
-true_lesser False y = refl
-true_lesser Unknown True = refl
-true_lesser Unknown False = refl
-true_lesser Unknown Unknown = refl
 
 true_all : (read : ColRef → Value) (gs : List (List Atom)) → is_true (truth_by read gs) ≡ list_all (λ (g : List Atom). is_true (group_truth read g)) gs
 true_all read [] = refl

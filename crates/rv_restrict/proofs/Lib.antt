@@ -1,3 +1,4 @@
+pub mod Below
 pub mod Binds
 pub mod Branches
 pub mod Covers

@@ -61,7 +61,7 @@ fn bind_groups(
     match groups {
         [] => Ok(()),
         [group, more @ ..] => {
-            if highest(group.as_slice()) == place {
+            if highest_place(group.as_slice()) == place {
                 found.push(bind_group(alloc, group.as_slice(), place, outer)?)?;
             }
             bind_groups(alloc, more, place, outer, found)
@@ -248,13 +248,13 @@ fn is_outer_operand(operand: &Operand, place: u32) -> bool
     }
 }
 
-/// The highest place that a group names, 0 where it names none.
-fn highest(atoms: &[Atom]) -> u32
+/// The highest place that a group names, 0 where it names none: rows for this place and those below decide it.
+pub fn highest_place(atoms: &[Atom]) -> u32
     ensures { result ≡ group_place atoms.now }
 {
     match atoms {
         [] => 0,
-        [atom, more @ ..] => highest_of_atom(atom).max(highest(more)),
+        [atom, more @ ..] => highest_of_atom(atom).max(highest_place(more)),
     }
 }
 

@@ -10,5 +10,6 @@ mod range;
 mod truth;
 
 pub use atom::{Atom, ColRef, Op, Operand, Tri};
+pub use bind::highest_place;
 pub use part::Part;
 pub use truth::{Reads, Restriction};
