@@ -7,7 +7,7 @@ use Rattle.std.proofs.lemmas.Bool.Decides.{nat_tests}
 use Rattle.std.proofs.lemmas.List.{length-map}
 use Rattle.std.proofs.lemmas.List.Sorted.{length_permutation}
 use Rattle.std.specs.Cmp.{first_so, second_so}
-use Rattle.std.proofs.lemmas.Bool.{and_from}
+use Rattle.std.proofs.lemmas.Bool.{and_from, and_left, and_right}
 use Rattle.rv_value.proofs.Tests.{no_way}
 use Rattle.rv_judge.specs.declared.counting.Counts.{Counts}
 use Rattle.rv_judge.specs.declared.events.Strategy.{Strategy}
@@ -324,16 +324,10 @@ united (Ok a) query shown cursor opening choice plans t u is = subst (λ (b : Bo
 united (Err x) query shown cursor opening choice plans t u is = tt
 
 pub no_union : (query : Query) (shown : Shown) (choice : Choice) → is_table choice.strategy ≡ false → unites query shown choice ≡ false
-no_union query shown choice t = first_off (is_table choice.strategy) (some_serves query shown) t
-  where
-    first_off : (a b : Bool) → a ≡ false → (a && b) ≡ false
-    first_off a b h = grind arith
+no_union query shown choice t = and_left (is_table choice.strategy) (some_serves query shown) t
 
 pub none_serve : (query : Query) (shown : Shown) (choice : Choice) → some_serves query shown ≡ false → unites query shown choice ≡ false
-none_serve query shown choice s = second_off (is_table choice.strategy) (some_serves query shown) s
-  where
-    second_off : (a b : Bool) → b ≡ false → (a && b) ≡ false
-    second_off a b h = grind arith
+none_serve query shown choice s = and_right (is_table choice.strategy) (some_serves query shown) s
 
 pub competed : {E : Type 0} (r : Result Access E) (query : Query) (shown : Shown) (cursor opening : ℕ) (choice : Choice) → unites query shown choice ≡ false → IfOk r (Competes query shown cursor opening) → IfOk r (OpenedBy false (unites query shown choice) query shown cursor opening choice)
 competed (Ok a) query shown cursor opening choice none is = subst (λ (b : Bool). OpenedBy false b query shown cursor opening choice a) (sym none) is
