@@ -7,6 +7,7 @@ use Rattle.std.specs.List.{AllByRecursion, flat_map, list_any}
 use Rattle.std.specs.Ordering.{is_eq, ordering_then}
 use Rattle.std.specs.declared.cmp.Ordering.{Ordering}
 use Rattle.std.specs.declared.cmp.Ordering.TheVariants.{Less, Equal, Greater}
+use Rattle.std.proofs.Math.Bool.{and-false}
 use Rattle.rv_value.proofs.Lists.{all_filter, all_last}
 use Rattle.rv_value.specs.declared.value.Value.{Value}
 use Rattle.rv_value.specs.declared.value.Value.TheVariants.{Null, Int, Str}
@@ -156,13 +157,9 @@ equal_turned columns r s = elim (cases_Bool (same_values (key_of columns s.value
       (λ i. not (sym null i) && t i) ∙ sym (ap (λ b. not (list_any is_null (key_of columns s.values)) && b) back)
   | inr f ↦
       let back : same_values (key_of columns r.values) (key_of columns s.values) ≡ false = values_turned (key_of columns r.values) (key_of columns s.values) ∙ f in
-      ap (λ b. not (list_any is_null (key_of columns r.values)) && b) f ∙ and_false (not (list_any is_null (key_of columns r.values)))
-      ∙ sym (ap (λ b. not (list_any is_null (key_of columns s.values)) && b) back ∙ and_false (not (list_any is_null (key_of columns s.values))))
+      ap (λ b. not (list_any is_null (key_of columns r.values)) && b) f ∙ and-false (not (list_any is_null (key_of columns r.values)))
+      ∙ sym (ap (λ b. not (list_any is_null (key_of columns s.values)) && b) back ∙ and-false (not (list_any is_null (key_of columns s.values))))
 ]
-  where
-    and_false : (b : Bool) → (b && false) ≡ false
-    and_false true = refl
-    and_false false = refl
 
 numbers_turned : (m n : ℕ) → (m == n) ≡ (n == m)
 numbers_turned m n = elim (cases_Bool (m == n)) [

@@ -1,6 +1,6 @@
 -- The calls of phases whose sessions are threads, up to a phase.
 use Rattle.std.proofs.Common.{◌≡◌, ℕ, ◌+◌, ◌<◌, ◌≤◌, ◌==◌, ◌&&◌, List, [], ◌∷◌, ◌++◌, refl, sym, ap, subst, ◌∙◌, arith, suc, zero, Bool, true, false, map, inl, inr, append_assoc, append-nil, take, length, nat_le, All}
-use Rattle.std.proofs.lemmas.Bool.{cases_Bool}
+use Rattle.std.proofs.lemmas.Bool.{cases_Bool, eqb-true}
 use Rattle.std.proofs.lemmas.List.{length-take-le, map-append, take_all, take_more}
 use Rattle.std.proofs.lemmas.Bool.Decides.{nat_tests}
 use Rattle.std.proofs.lemmas.List.Elements.{All-weaker, filter-append, recursion_from_All}
@@ -22,15 +22,12 @@ use Rattle.rv_run.specs.Making.{FitsPhase, FitsScript, MadeFirst, no_phase}
 abbrev again : ℕ → List OwnCall → List Call
 again session cs = map (λ (c : OwnCall). call session c.phase c.text) cs
 
-equal : (n m : ℕ) → (n == m) ≡ true → n ≡ m
-equal n m t = grind (arith, nat_tests)
-
 own_again : (session : ℕ) (h : List Entry) → of_session session (calls_made h) ≡ again session (own session h)
 own_again session [] = refl
 own_again session (e ∷ es) =
     let rest = own_again session es in
     elim (cases_Bool (e.session == session)) [
-      | inl t ↦ rw t (ap (λ (n : ℕ). call n e.phase e.text ∷ of_session session (calls_made es)) (equal e.session session t) ∙ ap (λ (cs : List Call). call session e.phase e.text ∷ cs) rest)
+      | inl t ↦ rw t (ap (λ (n : ℕ). call n e.phase e.text ∷ of_session session (calls_made es)) (eqb-true e.session session t) ∙ ap (λ (cs : List Call). call session e.phase e.text ∷ cs) rest)
       | inr f ↦ rw f rest
     ]
 
@@ -39,7 +36,7 @@ asked_again session phase [] = refl
 asked_again session phase (l ∷ ls) =
     let rest = asked_again session phase ls in
     elim (cases_Bool (l.session == session)) [
-      | inl t ↦ rw t (ap (λ (n : ℕ). call n phase l.text ∷ of_session session (calls_in phase ls)) (equal l.session session t) ∙ ap (λ (cs : List Call). call session phase l.text ∷ cs) rest)
+      | inl t ↦ rw t (ap (λ (n : ℕ). call n phase l.text ∷ of_session session (calls_in phase ls)) (eqb-true l.session session t) ∙ ap (λ (cs : List Call). call session phase l.text ∷ cs) rest)
       | inr f ↦ rw f rest
     ]
 
