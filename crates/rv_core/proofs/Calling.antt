@@ -2,7 +2,7 @@
 use Rattle.std.proofs.Common.{◌≡◌, ℕ, ◌-◌, ◌<◌, ◌≤◌, List, [], ◌∷◌, ◌++◌, refl, ap, sym, ◌∙◌, subst, arith, length, length-append, Result, Ok, Err, IfSome, Option, Some, None, true, false, nat_lt, is_some}
 use Rattle.std.specs.List.{AllByRecursion, list_all, slice_index_or}
 use Rattle.std.proofs.lemmas.Bool.Decides.{nat_tests}
-use Rattle.std.proofs.lemmas.Bool.{and_parts}
+use Rattle.std.proofs.lemmas.Bool.{and_parts, ltb-true}
 use Rattle.rv_value.specs.declared.record.Record.{Record}
 use Rattle.rv_value.proofs.Tests.{some_at}
 use Rattle.rv_rows.specs.declared.changes.Change.{Change}
@@ -147,10 +147,7 @@ rows_agree : (shown : Shown) (count own base : ℕ) (active : List Transaction) 
 rows_agree shown count own base active [] within at there = tt
 rows_agree shown count own base active (t ∷ ts) within at there =
     let parts = and_parts (is_column count t) (list_all (is_column count) ts) there in
-    (base_at shown count t active own within (low t count parts.0) ∙ ap (λ (b : ℕ). shown.rows t b) at, rows_agree shown count own base active ts within at parts.1)
-  where
-    low : (a b : ℕ) → nat_lt a b ≡ true → a < b
-    low a b h = grind (arith, nat_tests)
+    (base_at shown count t active own within (ltb-true t count parts.0) ∙ ap (λ (b : ℕ). shown.rows t b) at, rows_agree shown count own base active ts within at parts.1)
 
 -- the view of a transaction is what was frozen of it over the store's rows
 frozen_rows : (shown : Shown) (base table : ℕ) (t : Transaction) (frozen : Option Frozen) (rows : List Record) → rows ≡ shown.rows table base → Freezes shown t frozen → rows_with_changes table t.changes rows ≡ view_at shown base frozen table

@@ -1,6 +1,6 @@
 -- Few items of each kind, and so few in all.
-use Rattle.std.proofs.Common.{◌≡◌, ℕ, ◌+◌, ◌*◌, ◌<◌, ◌≤◌, ◌==◌, zero, suc, List, [], ◌∷◌, ◌++◌, refl, sym, ap, ◌∙◌, arith, Bool, true, false, not, filter, take, drop, remove, slice_get, slice_set, length, Some, inl, inr}
-use Rattle.std.proofs.lemmas.Bool.{cases_Bool}
+use Rattle.std.proofs.Common.{◌≡◌, ℕ, ◌+◌, ◌*◌, ◌<◌, ◌≤◌, ◌==◌, zero, suc, List, [], ◌∷◌, ◌++◌, refl, sym, ap, ◌∙◌, arith, Bool, false, not, filter, take, drop, remove, slice_get, slice_set, length, Some, inl, inr}
+use Rattle.std.proofs.lemmas.Bool.{cases_Bool, eqb-true}
 use Rattle.std.proofs.lemmas.Bool.Decides.{nat_tests}
 use Rattle.std.specs.List.{AllByRecursion}
 use Rattle.std.proofs.lemmas.List.Filters.{length-filter_both}
@@ -55,12 +55,9 @@ few_push kind most xs x room few n =
     let a = append_few (λ y. kind y == n) xs (x ∷ []) in
     let b = few n in
     elim (cases_Bool (kind x == n)) [
-      | inl t ↦ let same = same_kind (kind x) n t in let c = ap (λ (k : ℕ). length (of_kind kind k xs)) same in let one : length (filter (λ y. kind y == n) (x ∷ [])) ≡ 1 = rw t refl in omega (arith, a, room, c, one)
+      | inl t ↦ let same = eqb-true (kind x) n t in let c = ap (λ (k : ℕ). length (of_kind kind k xs)) same in let one : length (filter (λ y. kind y == n) (x ∷ [])) ≡ 1 = rw t refl in omega (arith, a, room, c, one)
       | inr f ↦ let nothing : length (filter (λ y. kind y == n) (x ∷ [])) ≡ 0 = rw f refl in omega (arith, a, b, nothing)
     ]
-  where
-    same_kind : (a b : ℕ) → (a == b) ≡ true → a ≡ b
-    same_kind a b h = grind (arith, nat_tests)
 
 -- an item is put in the place of one of its kind
 pub few_set : {X : Type 0} (kind : X → ℕ) (xs : List X) (i : ℕ) (x y : X) → slice_get xs i ≡ Some x → kind y ≡ kind x → (n : ℕ) → length (of_kind kind n (slice_set xs i y)) ≡ length (of_kind kind n xs)

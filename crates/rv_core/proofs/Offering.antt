@@ -2,7 +2,7 @@
 use Rattle.std.proofs.Common.{◌≡◌, ◌<◌, ℕ, List, [], ◌∷◌, arith, true, nat_lt, nat_eq, length}
 use Rattle.std.specs.List.{list_all, slice_index_or}
 use Rattle.std.proofs.lemmas.Bool.Decides.{nat_tests}
-use Rattle.std.proofs.lemmas.Bool.{and_from, and_parts}
+use Rattle.std.proofs.lemmas.Bool.{and_from, and_parts, ltb-true}
 use Rattle.rv_restrict.specs.declared.atom.ColRef.{ColRef}
 use Rattle.rv_restrict.specs.Bind.{passes_home}
 use Rattle.rv_restrict.specs.Truth.{names_only}
@@ -35,10 +35,7 @@ pub first_there : (n : ℕ) (tables : List ℕ) → length tables ≡ 1 → list
 first_there n [] one there = absurd (omega arith)
 first_there n (t ∷ ts) one there =
     let parts = and_parts (nat_lt t n) (list_all (is_column n) ts) there in
-    lt_from t n parts.0
-  where
-    lt_from : (a b : ℕ) → nat_lt a b ≡ true → a < b
-    lt_from a b h = grind (arith, nat_tests)
+    ltb-true t n parts.0
 
 -- the table of the one FROM item is there
 pub query_reads : (shown : Shown) (schema : Schema) (txns : Transactions) (select : Select) (snap : ℕ) → IsTied shown schema txns → length select.tables ≡ 1 → IsQueryOf schema select → IsSnapshot shown snap → CanRead shown (table_of select) snap

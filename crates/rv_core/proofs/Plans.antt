@@ -1,8 +1,7 @@
 -- A cursor's plan over a snapshot of the store.
-use Rattle.std.proofs.Common.{◌≡◌, ℕ, ◌<◌, ◌≤◌, List, [], ◌∷◌, true, Option, Some, None, IfSome, ap, sym, subst, ◌∙◌, arith, length, nat_lt, Result, Ok, Err, IfOk}
+use Rattle.std.proofs.Common.{◌≡◌, ℕ, ◌<◌, ◌≤◌, List, [], ◌∷◌, true, Option, Some, None, IfSome, ap, sym, subst, ◌∙◌, arith, length, Result, Ok, Err, IfOk}
 use Rattle.std.specs.List.{AllByRecursion, list_all}
-use Rattle.std.proofs.lemmas.Bool.Decides.{nat_tests}
-use Rattle.std.proofs.lemmas.Bool.{and_parts}
+use Rattle.std.proofs.lemmas.Bool.{and_parts, ltb-true}
 use Rattle.rv_value.proofs.Lists.{all_at}
 use Rattle.rv_rows.specs.Rows.{Ascend}
 use Rattle.rv_catalog.specs.declared.def.IndexDef.{IndexDef}
@@ -29,11 +28,8 @@ pub reads_all : (shown : Shown) (schema : Schema) (txns : Transactions) (snap : 
 reads_all shown schema txns snap [] tied there base = tt
 reads_all shown schema txns snap (t ∷ ts) tied there base =
     let parts = and_parts (is_column (length schema.tables) t) (list_all (is_column (length schema.tables)) ts) there in
-    let low : t < length schema.tables = below t (length schema.tables) parts.0 in
+    let low : t < length schema.tables = ltb-true t (length schema.tables) parts.0 in
     (record { there = omega (arith, low, tied.count); snapshot = base }, reads_all shown schema txns snap ts tied parts.1 base)
-  where
-    below : (a b : ℕ) → nat_lt a b ≡ true → a < b
-    below a b h = grind (arith, nat_tests)
 
 pub plans : (shown : Shown) (schema : Schema) (txns : Transactions) (s : Select) (snap : ℕ) (frozen : Option Frozen) (indexes : List IndexDef) → IsTied shown schema txns → IsStored shown → IsSnapshot shown snap → IsQueryOf schema s → 1 ≤ length s.tables → indexes ≡ schema.indexes → length schema.indexes ≤ 512
     → AllByRecursion (λ (t : ℕ). Ascend (shown.rows t snap)) s.tables → IfSome frozen (IsViewed shown txns.touched snap) → CanPlan s indexes (seen_at shown snap frozen) snap

@@ -24,7 +24,7 @@ use Rattle.rv_core.specs.Pieces.{KeepsSettled, TriesAt}
 use Rattle.rv_core.specs.Short.{AnsweredMoves, CallMoves, CallsMove, Held, held, lost_by}
 
 -- what a cursor sees
-abbrev sight : Held → Shown
+abbrev pub sight : Held → Shown
 sight h = seen_by h.store h.cursor
 
 -- what a call leaves of it
@@ -34,11 +34,11 @@ sight_stays moves old new call = call.sees ∙ (λ i. seen_at old.store (call.sa
 asked_stays : (moves : List Move) (old new : Held) → CallMoves moves old new → IsAlone old.cursor.plan → IsAlone new.cursor.plan
 asked_stays moves old new call one = subst (λ (a : Asked). length a.items ≡ 1) (sym call.same.asked) one
 
-sights_stay : (calls : List (List Move)) (old new : Held) → CallsMove calls old new → sight new ≡ sight old
+pub sights_stay : (calls : List (List Move)) (old new : Held) → CallsMove calls old new → sight new ≡ sight old
 sights_stay [] old new same = ap sight same
 sights_stay (moves ∷ calls) old new made = sight_stays moves made.0 new made.2 ∙ sights_stay calls old made.0 made.1
 
-stays_alone : (calls : List (List Move)) (old new : Held) → CallsMove calls old new → IsAlone old.cursor.plan → IsAlone new.cursor.plan
+pub stays_alone : (calls : List (List Move)) (old new : Held) → CallsMove calls old new → IsAlone old.cursor.plan → IsAlone new.cursor.plan
 stays_alone [] old new same one = subst (λ (h : Held). IsAlone h.cursor.plan) (sym same) one
 stays_alone (moves ∷ calls) old new made one = asked_stays moves made.0 new made.2 (stays_alone calls old made.0 made.1 one)
 

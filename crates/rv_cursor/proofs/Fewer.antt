@@ -23,7 +23,7 @@ use Rattle.rv_cursor.proofs.Moving.{all_on}
 few_none : (shown : Shown) (p : Planned) → FewFetches 0 shown p p
 few_none shown p = record { settled = λ s. s; few = λ s. le-add_right (plan_fetches shown p) 0 }
 
-add_few : (a b c m n : ℕ) → b ≤ a + m → c ≤ b + n → c ≤ a + (m + n)
+pub add_few : (a b c m n : ℕ) → b ≤ a + m → c ≤ b + n → c ≤ a + (m + n)
 add_few a b c m n first then = omega (arith, first, then)
 
 few_then : (m n : ℕ) (shown : Shown) (a b c : Planned) → FewFetches m shown a b → FewFetches n shown b c → FewFetches (m + n) shown a c
@@ -85,14 +85,14 @@ moves_few (move ∷ moves) would shown old new made one =
 lose_nothing : (would : ℕ → Facts → Ruling) (shown : Shown) (old new : Ruled) → new ≡ old → LosesNone would shown old new
 lose_nothing would shown old new same = record { moves = []; made = same; none = refl }
 
-lost_step : (all xs ys x : ℕ) → all ≡ xs + ys → all + x ≡ xs + x + ys
-lost_step all xs ys x rest = omega (arith, rest)
+pub more_all : (all xs ys x : ℕ) → all ≡ xs + ys → all + x ≡ xs + x + ys
+more_all all xs ys x rest = omega (arith, rest)
 
-lost_all : (xs ys : List Move) → lost_in (xs ++ ys) ≡ lost_in xs + lost_in ys
+pub lost_all : (xs ys : List Move) → lost_in (xs ++ ys) ≡ lost_in xs + lost_in ys
 lost_all [] ys = sym (zero-add (lost_in ys))
-lost_all (x ∷ xs) ys = lost_step (lost_in (xs ++ ys)) (lost_in xs) (lost_in ys) (lost_of x) (lost_all xs ys)
+lost_all (x ∷ xs) ys = more_all (lost_in (xs ++ ys)) (lost_in xs) (lost_in ys) (lost_of x) (lost_all xs ys)
 
-no_sum : (all xs ys : ℕ) → all ≡ xs + ys → xs ≡ 0 → ys ≡ 0 → all ≡ 0
+pub no_sum : (all xs ys : ℕ) → all ≡ xs + ys → xs ≡ 0 → ys ≡ 0 → all ≡ 0
 no_sum all xs ys sum first then = omega (arith, sum, first, then)
 
 lost_none : (xs ys : List Move) → lost_in xs ≡ 0 → lost_in ys ≡ 0 → lost_in (xs ++ ys) ≡ 0

@@ -1,7 +1,6 @@
 -- The offer in hand is one that may be given, and taken out it leaves the others.
 use Rattle.std.proofs.Common.{◌≡◌, ℕ, ◌+◌, ◌<◌, List, [], ◌∷◌, Bool, true, false, cond, not, ◌&&◌, refl, ap, sym, ◌∙◌, inl, inr, arith, length, suc, Option, Some, position, remove, nat_lt}
-use Rattle.std.proofs.lemmas.Bool.{cases_Bool, and_from, and_parts}
-use Rattle.std.proofs.lemmas.Bool.Decides.{nat_tests}
+use Rattle.std.proofs.lemmas.Bool.{cases_Bool, and_from, and_parts, not-true, lt-ltb}
 use Rattle.std.specs.List.{Contains, list_all, position_or_len}
 use Rattle.std.specs.Ordering.{is_lt, is_eq, ordering_then}
 use Rattle.std.specs.declared.cmp.Ordering.{Ordering}
@@ -87,24 +86,17 @@ first_order o [] all = refl
 first_order o (x ∷ xs) all = elim (cases_Bool (less x o)) [
   | inl t ↦
       let parts = and_parts (not_after o x) (list_all (not_after o) xs) all in
-      let low : is_lt (values_cmp x.order o.order) ≡ false = undo (is_lt (values_cmp x.order o.order)) parts.0 in
+      let low : is_lt (values_cmp x.order o.order) ≡ false = not-true (is_lt (values_cmp x.order o.order)) parts.0 in
       let same : x.order ≡ o.order = values_same x.order o.order (equal_then (values_cmp x.order o.order) (values_cmp x.returned o.returned) t low) in
       rw t (ap (λ (vs : List Value). position (λ (y : Offer). same_values y.order vs && same_values y.returned o.returned) (x ∷ with_offer o xs)) same)
   | inr f ↦ rw f refl
 ]
-  where
-    undo : (b : Bool) → not b ≡ true → b ≡ false
-    undo true e = cc
-    undo false e = refl
 
 found_place : (o : Offer) (xs : List Offer) → list_all (not_after o) xs ≡ true → place_of (with_offer o xs) o.returned ≡ Some (position_or_len (is_it o) (with_offer o xs))
 found_place o xs all =
     let f = found o xs in
-    let t : nat_lt (position_or_len (is_it o) (with_offer o xs)) (length (with_offer o xs)) ≡ true = below _ _ f.within in
+    let t : nat_lt (position_or_len (is_it o) (with_offer o xs)) (length (with_offer o xs)) ≡ true = lt-ltb _ _ f.within in
     first_order o xs all ∙ rw t refl
-  where
-    below : (a b : ℕ) → a < b → nat_lt a b ≡ true
-    below a b h = grind (arith, nat_tests)
 
 here : (x : Offer) (xs : List Offer) → Contains (x ∷ xs) x
 here x xs = (0, omega arith, refl)
