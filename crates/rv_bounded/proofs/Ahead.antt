@@ -1,6 +1,7 @@
 -- How many leaves the scans of a joint scan may still read where they keep to their shares.
 use Rattle.std.proofs.Common.{◌≡◌, ℕ, ◌+◌, ◌-◌, ◌*◌, ◌^◌, ◌<◌, ◌≤◌, List, length, length-set, min, Bool, true, false, not, ◌&&◌, Option, Some, None, is_some, refl, ap, ◌∙◌, arith, if◌then◌else◌}
 use Rattle.std.proofs.lemmas.List.{get_or-set_same}
+use Rattle.std.specs.Cmp.{first_so}
 use Rattle.rv_value.specs.declared.record.IndexEntry.{IndexEntry}
 use Rattle.rv_reader.specs.declared.reader.Chunk.{Chunk}
 use Rattle.rv_jscan.specs.declared.jscan.ScanPlan.{ScanPlan}
@@ -10,6 +11,7 @@ use Rattle.rv_jscan.specs.Steps.{HasEntries, TakeLeaves, counts_read, going, lea
 use Rattle.rv_jscan.proofs.Fits.{way_within}
 use Rattle.skew_judges.specs.Guard.{share}
 use Rattle.rv_bounded.proofs.Shares.{first_scan, share_within, to_read}
+use Rattle.rv_bounded.proofs.Sums.{read_sum, lost_sum}
 
 abbrev pub greatest : ℕ
 greatest = 2 ^ 64 - 1
@@ -29,12 +31,6 @@ ahead p j = to_read p j.ended (length j.plans - j.ended) - min (spent_by j) (1 +
 
 -- Sums.
 
-read_sum : (new old whole rest share spent after held had most : ℕ) → new ≡ whole - min after (1 + share + held) → old ≡ whole - min spent (1 + share + had) → whole ≡ 2 + share + rest → after ≡ min (spent + 1) most → held ≡ 1 → had ≡ 0 → 2 + share ≤ most → new + 1 ≤ old
-read_sum new old whole rest share spent after held had most n o w a h d s = omega (arith, n, o, w, a, h, d, s)
-
-lost_sum : (new old whole rest share spent after held had most : ℕ) → new ≡ whole - min after (1 + share + held) → old ≡ whole - min spent (1 + share + had) → whole ≡ 2 + share + rest → after ≡ min (spent + 1) most → had ≡ 0 → 2 + share ≤ most → new ≤ old
-lost_sum new old whole rest share spent after held had most n o w a d s = omega (arith, n, o, w, a, d, s)
-
 next_sum : (new old whole rest share spent taken had left : ℕ) → new ≡ left - taken → left ≡ rest → old ≡ whole - min spent (1 + share + had) → whole ≡ 2 + share + rest → had ≤ 1 → new ≤ old
 next_sum new old whole rest share spent taken had left n l o w h = omega (arith, n, l, o, w, h)
 
@@ -43,11 +39,7 @@ stay_sum new old left whole part share after spent held had n o l p a s = omega 
 
 -- Facts of the scan under way.
 
-left_true : (a b : Bool) → (a && b) ≡ true → a ≡ true
-left_true true b h = refl
-left_true false b h = h
-
-none_held : (b : Bool) (h : Option Chunk) → (b && not (is_some h)) ≡ true → held_one h ≡ 0
+pub none_held : (b : Bool) (h : Option Chunk) → (b && not (is_some h)) ≡ true → held_one h ≡ 0
 none_held b None r = refl
 none_held true (Some c) r = absurd (cc)
 none_held false (Some c) r = absurd (cc)
@@ -56,7 +48,7 @@ pub one_held : (h : Option Chunk) → is_some h ≡ true → held_one h ≡ 1
 one_held None s = absurd (cc)
 one_held (Some c) s = refl
 
-held_few : (h : Option Chunk) → held_one h ≤ 1
+pub held_few : (h : Option Chunk) → held_one h ≤ 1
 held_few None = omega arith
 held_few (Some c) = omega arith
 
@@ -65,7 +57,7 @@ has_held None entries i = absurd i
 has_held (Some c) entries i = refl
 
 pub is_under_way : (j : Joint) → reads_leaf j ≡ true → under_way j ≡ true
-is_under_way j r = left_true (under_way j) (not (is_some j.held)) r
+is_under_way j r = first_so (under_way j) (not (is_some j.held)) r
 
 pub way_counted : (j : Joint) → under_way j ≡ true → length j.plans ≤ length j.counts → j.ended < length j.counts
 way_counted j way room = let lt = way_within j way in omega (arith, lt, room)
@@ -81,7 +73,7 @@ counts_long j = by (reads_leaf j)
     by true = length-set j.counts j.ended (leaf_counted (counts_at j.counts j.ended))
     by false = refl
 
-small_share : (p scan planned : ℕ) → scan < planned → p + 2 * planned < greatest → 2 + share p scan ≤ greatest
+pub small_share : (p scan planned : ℕ) → scan < planned → p + 2 * planned < greatest → 2 + share p scan ≤ greatest
 small_share p scan planned lt small = let within = share_within p scan in omega (arith, lt, small, within)
 
 -- A leaf is read, and held.
@@ -95,9 +87,6 @@ read_ahead p old new t r h room small =
 pub lost_ahead : (p : ℕ) (old new : Joint) → TakeLeaves old new → length old.plans ≤ length old.counts → p + 2 * length old.plans < greatest → ahead p new ≤ ahead p old
 lost_ahead p old new t room small = by (reads_leaf old) refl
   where
-    at_most : (n : ℕ) → n ≤ n
-    at_most n = omega arith
-
     same_less : (a b : ℕ) → a ≡ b → a ≤ b
     same_less a b e = omega (arith, e)
 

@@ -1,7 +1,8 @@
 -- The controls of a retrieval whose foreground scans no index.
-use Rattle.std.proofs.Common.{◌≡◌, List, [], ◌∷◌, Bool, true, false, not, ◌&&◌, ◌||◌, refl, arith}
+use Rattle.std.proofs.Common.{◌≡◌, List, [], ◌∷◌, Bool, true, false, not, ◌&&◌, ◌||◌, refl}
 use Rattle.std.specs.Prelude.{if◌then◌else◌}
 use Rattle.std.specs.List.{list_all}
+use Rattle.std.specs.Cmp.{first_so, second_so}
 use Rattle.rv_value.proofs.Tests.{no_other}
 use Rattle.rv_judge.specs.declared.events.Strategy.{Strategy}
 use Rattle.rv_judge.specs.declared.events.Strategy.TheVariants.{Table, BackgroundOnly, FastFirst, Sorted, IndexOnly, Union}
@@ -26,15 +27,9 @@ is_behind s Done = true
 abbrev leads_on : Strategy → Control → List Row → Bool
 leads_on s c rows = list_all (λ (r : Row). not (r.at c && r.under s) || is_behind s (r.next c)) rows
 
-left_true : (a b : Bool) → (a && b) ≡ true → a ≡ true
-left_true a b h = grind arith
-
-right_true : (a b : Bool) → (a && b) ≡ true → b ≡ true
-right_true a b h = grind arith
-
 on_by : (rows : List Row) (s : Strategy) (c : Control) (h : Happening) → leads_on s c rows ≡ true → is_behind s c ≡ true → is_behind s (next_by rows s c h) ≡ true
 on_by [] s c h a b = b
-on_by (r ∷ rows) s c h a b = pick (r.next c) (next_by rows s c h) (r.at c) (r.under s) (r.upon h) (left_true _ _ a) (on_by rows s c h (right_true _ _ a) b)
+on_by (r ∷ rows) s c h a b = pick (r.next c) (next_by rows s c h) (r.at c) (r.under s) (r.upon h) (first_so _ _ a) (on_by rows s c h (second_so _ _ a) b)
   where
     pick : (x y : Control) (at under upon : Bool) → (not (at && under) || is_behind s x) ≡ true → is_behind s y ≡ true → is_behind s (if at && under && upon then x else y) ≡ true
     pick x y true true true a l = a

@@ -1,5 +1,5 @@
 -- What calls cost of the final stage, and what they leave: few keys, and a final stage that costs little.
-use Rattle.std.proofs.Common.{◌≡◌, ℕ, ◌+◌, ◌-◌, ◌<◌, ◌≤◌, List, length, Bool, true, false, is_some, inl, inr, refl, ap, sym, ◌∙◌, subst, arith, le_trans}
+use Rattle.std.proofs.Common.{◌≡◌, ℕ, ◌+◌, ◌-◌, ◌≤◌, List, length, Bool, true, false, is_some, inl, inr, refl, ap, sym, ◌∙◌, subst, arith, le_trans}
 use Rattle.std.specs.Prelude.{if◌then◌else◌}
 use Rattle.rv_value.proofs.Tests.{no_other}
 use Rattle.rv_value.specs.declared.record.IndexEntry.{IndexEntry}
@@ -34,6 +34,7 @@ use Rattle.rv_bounded.proofs.Ahead.{ahead, greatest, way_counted}
 use Rattle.rv_bounded.proofs.Controls.{is_apart}
 use Rattle.rv_bounded.proofs.Sound.{Sound, abandoned_sound, completed_sound, going_capped, going_fresh, going_scanned, going_sound, held_short, keeps_fewer, kept_by}
 use Rattle.rv_bounded.proofs.Spending.{Outcome, Spends, Within, asked_of, given_outcome, given_spends, within_on}
+use Rattle.rv_bounded.proofs.Sums.{less_more, at_most, still_sum}
 
 -- THE READS OF THE FINAL STAGE that a control may still come to: as many as the table has pages, and 48 more, while pieces
 -- are awaited; the keys left of the list; the pages left of the table
@@ -163,9 +164,6 @@ pub outcome_counts : (would : ℕ → Facts → Ruling) (state : ℕ) (entries :
 outcome_counts would state entries old new (inl on) = subst (λ (x : Shape). SameCounts old.trace x.trace) (sym on.1) (ruled_counts (asked_of would state old (going old.joint entries on.0)) (record old { joint = going old.joint entries on.0 }))
 outcome_counts would state entries old new (inr over) = subst (λ (x : Shape). SameCounts old.trace x.trace) (sym over.2) (over_counts old.joint.ended (record old { joint = completed old.joint entries over.0 }))
 
-less_more : (a b c : ℕ) → a < b → b ≤ c → a < c
-less_more a b c h m = omega (arith, h, m)
-
 -- where the judge lets a scan go on it has kept fewer keys than the table has pages
 pub goes_sound : (p planned : ℕ) (would : ℕ → Facts → Ruling) (state : ℕ) (old : Shape) (entries : List IndexEntry) (cut : IndexEntry) → IsBounded would → Within p planned old → p ≤ greatest → Sound p old.joint → under_way old.joint ≡ true → goes_on (asked_of would state old (going old.joint entries cut)) ≡ true → Sound p (going old.joint entries cut)
 goes_sound p planned would state old entries cut rule w small s way on =
@@ -197,14 +195,8 @@ given_sound p planned would state after piece old new j rule w small s awaits ac
 same_sum : (a b c d : ℕ) → a ≡ c → b ≡ d → a + b ≤ c + d
 same_sum a b c d e f = omega (arith, e, f)
 
-same_others : (old new : Shape) → SameCounts old.trace new.trace → others new ≤ others old
+pub same_others : (old new : Shape) → SameCounts old.trace new.trace → others new ≤ others old
 same_others old new s = same_sum new.trace.pages new.trace.fetches old.trace.pages old.trace.fetches s.pages s.fetches
-
-pub still_sum : (n a : ℕ) → n + a ≤ n + a + 0
-still_sum n a = omega arith
-
-same_sum_less : (n : ℕ) → n ≤ n
-same_sum_less n = omega arith
 
 pub give_costs : (p planned : ℕ) (would : ℕ → Facts → Ruling) (query : Query) (old new : Shape) → p ≤ greatest → IsBounded would → Whole query p planned old → Gives would old new → Costs p 0 old new
 give_costs p planned would query old new small rule w gives = by gives.given gives.answers gives.obeys
@@ -225,7 +217,7 @@ give_costs p planned would query old new small rule w gives = by gives.given giv
       other = 0;
       both = refl;
       spends = record {
-        stays = record { behind = λ b. b; plans = refl; counts = refl; less = same_sum_less old.guaranteed; asked = refl; apart = λ b. b };
+        stays = record { behind = λ b. b; plans = refl; counts = refl; less = at_most old.guaranteed; asked = refl; apart = λ b. b };
         fewer = still_sum old.trace.leaves (ahead p old.joint);
       };
       fewer = still_sum (others old) (rest_of p old);

@@ -10,6 +10,7 @@ use Rattle.rv_cursor.specs.Left.{seen_at, seen_by}
 use Rattle.rv_cursor.specs.Moves.{Move, MovesBy, MovesByAll, Ruled, ruled}
 use Rattle.rv_cursor.specs.Moves.Move.{Front, Lost, Take, Give}
 use Rattle.rv_core.specs.Short.{Held}
+use Rattle.rv_core.proofs.Shorts.{sight}
 use Rattle.skew_judges.specs.Guard.{IsBounded}
 use Rattle.rv_bounded.specs.Cursors.{CallDoes, CallGives, CallSpends, CallsSpend, CursorCall, CursorsAreBounded, FastCursorsAreBounded, MoveLoses, MovesLose, OpensBegin}
 use Rattle.rv_bounded.specs.Cursors.CursorCall.{Moving, Giving}
@@ -19,6 +20,7 @@ use Rattle.rv_bounded.specs.Plans.PlanCall.{Steps, Takes, Gives}
 use Rattle.rv_bounded.proofs.PlanLaws.{fast_plans_bounded, plans_bounded}
 use Rattle.rv_bounded.proofs.RacedPlans.{raced_plans_bounded}
 use Rattle.rv_bounded.proofs.UnitedPlans.{united_plans_bounded}
+use Rattle.rv_bounded.proofs.Sums.{le_on, at_most, zero_least}
 
 -- ONE MOVE
 
@@ -64,10 +66,7 @@ move_spends Give would shown old new lost rule by loses = (
 
 spends_more : (calls : List PlanCall) (shown : Shown) (m n : ℕ) (old new : Planned) → m ≤ n → PlanSpendsAll calls shown m old new → PlanSpendsAll calls shown n old new
 spends_more [] shown m n old new h same = same
-spends_more (call ∷ calls) shown m n old new h made = (made.0, made.1, made.2, made.3, made.4, within (made.1 + made.2) m n made.5 h)
-  where
-    within : (a m n : ℕ) → a ≤ m → m ≤ n → a ≤ n
-    within a m n h k = omega (arith, h, k)
+spends_more (call ∷ calls) shown m n old new h made = (made.0, made.1, made.2, made.3, made.4, le_on (made.1 + made.2) m n made.5 h)
 
 spends_on : (xs ys : List PlanCall) (shown : Shown) (m k n : ℕ) (a b c : Planned) → m + k ≤ n → PlanSpendsAll ys shown m a b → PlanSpendsAll xs shown k b c → PlanSpendsAll (xs ++ ys) shown n a c
 spends_on [] ys shown m k n a b c h first last = subst (PlanSpendsAll ys shown n a) (sym last) (spends_more ys shown m n a b (less m k n h) first)
@@ -75,11 +74,8 @@ spends_on [] ys shown m k n a b c h first last = subst (PlanSpendsAll ys shown n
     less : (m k n : ℕ) → m + k ≤ n → m ≤ n
     less m k n h = omega (arith, h)
 spends_on (x ∷ xs) ys shown m k n a b c h first last =
-    (last.0, m + last.1, last.2, spends_on xs ys shown m last.1 (m + last.1) a b last.0 (same (m + last.1)) first last.3, last.4, sum m last.1 last.2 k n last.5 h)
+    (last.0, m + last.1, last.2, spends_on xs ys shown m last.1 (m + last.1) a b last.0 (at_most (m + last.1)) first last.3, last.4, sum m last.1 last.2 k n last.5 h)
   where
-    same : (n : ℕ) → n ≤ n
-    same n = omega arith
-
     sum : (m a b k n : ℕ) → a + b ≤ k → m + k ≤ n → m + a + b ≤ n
     sum m a b k n g h = omega (arith, g, h)
 
@@ -97,10 +93,7 @@ moves_fit (Lost ∷ moves) would shown old new made fits = made.2.fits
 moves_fit (Take ∷ moves) would shown old new made fits = made.2.fits
 moves_fit (Give ∷ moves) would shown old new made fits = made.2.fits
 
--- what a cursor sees, and what calls are to its plan
-abbrev sight : Held → Shown
-sight h = seen_by h.store h.cursor
-
+-- what calls of a cursor are to its plan
 record Spent (lost : ℕ) (old new : Held) : Type 0 where
   pub plans : List PlanCall
   pub spends : PlanSpendsAll plans (sight old) lost old.cursor.plan new.cursor.plan
@@ -117,11 +110,8 @@ moving moves lost old new fits call =
       fits = moves_fit moves call.call.would (sight old) (ruled old.cursor call.call.state) (ruled new.cursor call.call.after) call.call.made fits;
     }
 
-none_lost : (lost : ℕ) → 0 + 0 ≤ lost
-none_lost lost = omega arith
-
 one_call : (call : PlanCall) (shown : Shown) (lost : ℕ) (old new : Planned) → PlanSpends call shown 0 old new → PlanSpendsAll (call ∷ []) shown lost old new
-one_call call shown lost old new spends = (old, 0, 0, refl, spends, none_lost lost)
+one_call call shown lost old new spends = (old, 0, 0, refl, spends, zero_least lost)
 
 giving : (lost : ℕ) (old new : Held) → PlanFits (sight old) old.cursor.plan → CallGives old new → Spent lost old new
 giving lost old new fits call =

@@ -4,6 +4,7 @@ use Rattle.std.specs.Prelude.{if◌then◌else◌, nat_lt}
 use Rattle.std.proofs.lemmas.Bool.Decides.{nat_tests}
 use Rattle.std.proofs.lemmas.List.{length-append}
 use Rattle.std.proofs.lemmas.List.Sorted.{length_permutation}
+use Rattle.std.specs.Cmp.{first_so}
 use Rattle.rv_value.proofs.Tests.{no_other}
 use Rattle.rv_value.specs.declared.record.IndexEntry.{IndexEntry}
 use Rattle.rv_judge.specs.declared.events.Control.{Control}
@@ -18,7 +19,7 @@ use Rattle.rv_judge.specs.declared.judging.Verdict.{Verdict}
 use Rattle.rv_judge.specs.declared.judging.Verdict.TheVariants.{Continue, AbandonScan, AbandonForeground, AbandonBackground}
 use Rattle.rv_judge.specs.Account.{ScanAccount, facts_of}
 use Rattle.rv_judge.specs.Course.{building, fast_first, index_only, next_control}
-use Rattle.rv_judge.specs.Tracing.{SameCounts, noted}
+use Rattle.rv_judge.specs.Tracing.{noted}
 use Rattle.rv_judge.specs.Verdicts.{Ruling}
 use Rattle.rv_jscan.specs.declared.jscan.Given.{Given}
 use Rattle.rv_jscan.specs.declared.jscan.Given.TheVariants.{Accepted, Stale}
@@ -41,10 +42,11 @@ use Rattle.skew_judges.specs.Rules.{is_building}
 use Rattle.rv_bounded.specs.Calls.{Gives}
 use Rattle.rv_bounded.proofs.Ahead.{ahead, greatest}
 use Rattle.rv_bounded.proofs.Controls.{is_apart}
-use Rattle.rv_bounded.proofs.Costs.{Costs, Whole, given_sound, goes_sound, others, rest_by, rest_of, still_sum}
+use Rattle.rv_bounded.proofs.Costs.{Costs, Whole, given_sound, goes_sound, others, rest_by, rest_of, same_others}
 use Rattle.rv_bounded.proofs.Loans.{loans, loans_completed, loans_dropped, most_by, part, part_within}
 use Rattle.rv_bounded.proofs.Sound.{Sound, held_short, kept_by}
 use Rattle.rv_bounded.proofs.Spending.{Outcome, Spends, Within, asked_of, given_outcome, given_spends, within_on}
+use Rattle.rv_bounded.proofs.Sums.{at_most, more_by, min_left, min_right, zero_least, list_sum, sum_none, still_sum}
 
 -- THE READS BESIDE LEAVES that a control may still come to: those of the final stage, as many as the pages or, once a list is
 -- complete, as are guaranteed, and 48 more; while both sides run what may still be borrowed, too
@@ -284,29 +286,16 @@ front_to s c more listed both fast = ap (λ (x : Strategy). next_control x c (Ru
     by false true = refl
     by false false = refl
 
-left_true : (a b : Bool) → (a && b) ≡ true → a ≡ true
-left_true true b h = refl
-left_true false b h = h
-
 more_left : (j : Joint) → more_behind j ≡ true → j.ended + 1 < length j.plans
-more_left j m = let test = left_true (nat_lt (j.ended + 1) (length j.plans)) _ m in grind (arith, nat_tests)
-
-no_keys : (n : ℕ) → 0 ≤ n
-no_keys n = omega arith
-
-same_number : (n : ℕ) → n ≤ n
-same_number n = omega arith
+more_left j m = let test = first_so (nat_lt (j.ended + 1) (length j.plans)) _ m in grind (arith, nat_tests)
 
 none_most : (list : Option (List ℕ)) (p g : ℕ) → is_some list ≡ false → p ≤ most_by list p g
-none_most None p g e = same_number p
+none_most None p g e = at_most p
 none_most (Some keys) p g e = absurd (cc)
-
-same_most : (m a b : ℕ) → a ≤ b → m + a ≤ m + b
-same_most m a b h = omega (arith, h)
 
 -- a scan is dropped
 dropped_left : (p : ℕ) (verdict : Verdict) (more next : Bool) (v : Shape) → is_background v.control ≡ true → (v.control ≡ Building → v.strategy ≡ FastFirst) → (next ≡ true → v.joint.ended + 1 < length v.joint.plans) → (next ≡ false → next_control v.strategy v.control (Ruled verdict more (is_some v.joint.list)) ≡ final_of (is_some v.joint.list)) → list_len v.joint.list ≤ most p v + 48 → Left p v (dropped verdict more next v)
-dropped_left p verdict more true v back fast on over listed = left_same p v (going_on (dropping v)) back refl (same_number (most p v)) (λ e. same_most (most p v) (loans p (abandoned v.joint) (if is_some v.joint.list then v.borrowed else 0)) (loans p v.joint v.borrowed) (loans_dropped p v.joint v.borrowed (on refl))) fast (λ e. no_keys (part p (v.joint.ended + 1))) (record { built = no_keys v.guaranteed; listed = listed })
+dropped_left p verdict more true v back fast on over listed = left_same p v (going_on (dropping v)) back refl (at_most (most p v)) (λ e. more_by (most p v) (loans p (abandoned v.joint) (if is_some v.joint.list then v.borrowed else 0)) (loans p v.joint v.borrowed) (loans_dropped p v.joint v.borrowed (on refl))) fast (λ e. zero_least (part p (v.joint.ended + 1))) (record { built = zero_least v.guaranteed; listed = listed })
 dropped_left p verdict more false v back fast on over listed = left_final p v (gone (Ruled verdict more (is_some v.joint.list)) (dropping v)) back (over refl) listed (none_most v.joint.list p v.guaranteed)
 
 -- the foreground is, where there is one
@@ -317,13 +306,13 @@ stands : (v : Shape) → v.control ≡ BackgroundAlone → can_stop v ≡ false
 stands v alone = ap (λ (c : Control). building c && (fast_first v.strategy || index_only v.strategy)) alone
 
 still_left : (p : ℕ) (v : Shape) → is_background v.control ≡ true → (v.control ≡ Building → v.strategy ≡ FastFirst) → (v.control ≡ Building → length v.joint.building ≤ part p v.joint.ended) → Kept p v → Left p v v
-still_left p v back fast few kept = left_same p v v back refl (same_number (most p v)) (λ e. same_number (most p v + loans p v.joint v.borrowed)) fast few kept
+still_left p v back fast few kept = left_same p v v back refl (at_most (most p v)) (λ e. at_most (most p v + loans p v.joint v.borrowed)) fast few kept
 
 stopped_left : (p : ℕ) (more : Bool) (v : Shape) → is_background v.control ≡ true → (v.control ≡ Building → v.strategy ≡ FastFirst) → Kept p v → Left p v (stopped more v)
 stopped_left p more v back fast kept = by_back v.control back both alone
   where
     both : v.control ≡ Building → Left p v (stopped more v)
-    both e = subst (λ (b : Bool). Left p v (if b then gone (Ruled AbandonForeground more (is_some v.joint.list)) (record v { trace = noted v.trace Stop }) else v)) (sym (stops v e (fast e))) (left_alone p v (gone (Ruled AbandonForeground more (is_some v.joint.list)) (record v { trace = noted v.trace Stop })) e (front_to v.strategy v.control more (is_some v.joint.list) e (fast e)) (same_number (most p v)) (record { built = kept.built; listed = kept.listed }))
+    both e = subst (λ (b : Bool). Left p v (if b then gone (Ruled AbandonForeground more (is_some v.joint.list)) (record v { trace = noted v.trace Stop }) else v)) (sym (stops v e (fast e))) (left_alone p v (gone (Ruled AbandonForeground more (is_some v.joint.list)) (record v { trace = noted v.trace Stop })) e (front_to v.strategy v.control more (is_some v.joint.list) e (fast e)) (at_most (most p v)) (record { built = kept.built; listed = kept.listed }))
 
     alone : v.control ≡ BackgroundAlone → Left p v (stopped more v)
     alone e = subst (λ (b : Bool). Left p v (if b then gone (Ruled AbandonForeground more (is_some v.joint.list)) (record v { trace = noted v.trace Stop }) else v)) (sym (stands v e)) (still_left p v back fast (λ f. not_alone v.control e f) kept)
@@ -337,13 +326,7 @@ ruled_left p AbandonBackground v back fast few on listed = dropped_left p Abando
 -- a scan is complete
 guaranteed_most : (list : Option (List ℕ)) (p g : ℕ) → g ≤ p → g ≤ most_by list p g
 guaranteed_most None p g h = h
-guaranteed_most (Some keys) p g h = same_number g
-
-min_left : (a b : ℕ) → min a b ≤ a
-min_left a b = omega arith
-
-min_right : (a b : ℕ) → min a b ≤ b
-min_right a b = omega arith
+guaranteed_most (Some keys) p g h = at_most g
 
 min_more : (a b : ℕ) → a ≤ b + 48 → a ≤ min a b + 48
 min_more a b h = omega (arith, h)
@@ -363,11 +346,8 @@ over_left p entries keys old back fast few listed_few within = by (under_way (co
     by : (b : Bool) → under_way (completed old.joint entries keys) ≡ b → Left p old (if b then going_on (listed old.joint.ended w) else gone (ScanEnded b true) (listed old.joint.ended w))
     by true way =
         let next : old.joint.ended + 1 < length old.joint.plans = way_within (completed old.joint entries keys) way in
-        left_same p old (going_on (listed old.joint.ended w)) back refl (le_trans (min_right (length keys) old.guaranteed) more) (λ e. loans_completed p old.joint old.borrowed old.guaranteed (min (length keys) old.guaranteed) entries keys (few e) (min_left (length keys) old.guaranteed) (min_right (length keys) old.guaranteed) within next) fast (λ e. no_keys (part p (old.joint.ended + 1))) (record { built = no_keys (min (length keys) old.guaranteed); listed = min_more (length keys) old.guaranteed listed_few })
+        left_same p old (going_on (listed old.joint.ended w)) back refl (le_trans (min_right (length keys) old.guaranteed) more) (λ e. loans_completed p old.joint old.borrowed old.guaranteed (min (length keys) old.guaranteed) entries keys (few e) (min_left (length keys) old.guaranteed) (min_right (length keys) old.guaranteed) within next) fast (λ e. zero_least (part p (old.joint.ended + 1))) (record { built = zero_least (min (length keys) old.guaranteed); listed = min_more (length keys) old.guaranteed listed_few })
     by false way = left_final p old (gone (ScanEnded false true) (listed old.joint.ended w)) back (over_to old.strategy old.control back fast) (more_most (length keys) old.guaranteed (most p old) listed_few more) (λ e. absurd (let bad : true ≡ false = e in cc))
-
-keys_sum : (keys all built more entries most : ℕ) → all ≡ keys → all ≡ built + more → built ≤ most → more ≤ entries → entries ≤ 48 → keys ≤ most + 48
-keys_sum keys all built more entries most k a b m e = omega (arith, k, a, b, m, e)
 
 -- where the judge lets both sides go on, few keys are listed
 lends_few : (p planned : ℕ) (would : ℕ → Facts → Ruling) (state : ℕ) (old : Shape) (entries : List IndexEntry) (cut : IndexEntry) → IsBounded would → Within p planned old → old.control ≡ Building → under_way old.joint ≡ true → Sound p (going old.joint entries cut) → asked_of would state old (going old.joint entries cut) ≡ Continue → length (going old.joint entries cut).building ≤ part p old.joint.ended
@@ -383,7 +363,7 @@ lends_few p planned would state old entries cut rule w both way sound on =
 
 -- what holds of the table's pages holds of the guarantee
 least_list : (list : Option (List ℕ)) (p g : ℕ) → list_len list ≤ most_by list p g + 48 → list_len list ≤ g + 48
-least_list None p g h = no_keys (g + 48)
+least_list None p g h = zero_least (g + 48)
 least_list (Some keys) p g h = h
 
 sound_least : (p : ℕ) (v : Shape) → Sound p v.joint → Kept p v → Sound v.guaranteed v.joint
@@ -398,7 +378,7 @@ sound_least p v s k = record {
 }
 
 within_least : (p planned : ℕ) (v : Shape) → Within p planned v → Within v.guaranteed planned v
-within_least p planned v w = record { behind = w.behind; plans = w.plans; room = w.room; less = same_number v.guaranteed }
+within_least p planned v w = record { behind = w.behind; plans = w.plans; room = w.room; less = at_most v.guaranteed }
 
 pub given_left : (p planned : ℕ) (would : ℕ → Facts → Ruling) (state after : ℕ) (piece : Pieced) (old new : Shape) (j : Joint) → IsBounded would → Within p planned old → p ≤ greatest → Sound p old.joint → is_background old.control ≡ true → (old.control ≡ Building → old.strategy ≡ FastFirst) → (old.control ≡ Building → length old.joint.building ≤ part p old.joint.ended) → Kept p old → Awaits old.joint piece → Accepts old.joint j piece.entries (held_next old.joint.held) → Obeys would state after old.joint.ended (record old { joint = j }) new → Left p old new
 given_left p planned would state after piece old new j rule w small s back fast few kept awaits accepts obeys = by (given_outcome would state after piece old new j awaits accepts obeys)
@@ -418,21 +398,12 @@ given_left p planned would state after piece old new j rule w small s back fast 
     by (inr over) =
         let short = held_short old.joint.held piece.entries awaits.entries s.short in
         let keys = over.0 in
-        let sum : (most : ℕ) → length old.joint.building ≤ most → length keys ≤ most + 48 = λ most built. keys_sum (length keys) (length (old.joint.building ++ kept_of old.joint piece.entries)) (length old.joint.building) (length (kept_of old.joint piece.entries)) (length piece.entries) most (sym (length_permutation (old.joint.building ++ kept_of old.joint piece.entries) keys over.1)) (length-append old.joint.building (kept_of old.joint piece.entries)) built (kept_few old.joint piece.entries) short in
+        let sum : (most : ℕ) → length old.joint.building ≤ most → length keys ≤ most + 48 = λ most built. list_sum (length keys) (length (old.joint.building ++ kept_of old.joint piece.entries)) (length old.joint.building) (length (kept_of old.joint piece.entries)) (length piece.entries) most (sym (length_permutation (old.joint.building ++ kept_of old.joint piece.entries) keys over.1)) (length-append old.joint.building (kept_of old.joint piece.entries)) built (kept_few old.joint piece.entries) short in
         subst (λ (x : Shape). Left p old x) (sym over.2) (over_left p piece.entries keys old back fast (λ e. sum (part p old.joint.ended) (few e)) (sum old.guaranteed kept.built) w.less)
-
-left_sum : (now left was had : ℕ) → now ≤ was → left ≤ had → now + left ≤ was + had + 0
-left_sum now left was had n l = omega (arith, n, l)
-
-same_counts : (old new : Shape) → SameCounts old.trace new.trace → others new ≤ others old
-same_counts old new s = both new.trace.pages new.trace.fetches old.trace.pages old.trace.fetches s.pages s.fetches
-  where
-    both : (a b c d : ℕ) → a ≡ c → b ≡ d → a + b ≤ c + d
-    both a b c d e f = omega (arith, e, f)
 
 pub still_spends : (p : ℕ) (v : Shape) → Spends p 0 v v
 still_spends p v = record {
-  stays = record { behind = λ b. b; plans = refl; counts = refl; less = same_number v.guaranteed; asked = refl; apart = λ b. b };
+  stays = record { behind = λ b. b; plans = refl; counts = refl; less = at_most v.guaranteed; asked = refl; apart = λ b. b };
   fewer = still_sum v.trace.leaves (ahead p v.joint);
 }
 
@@ -448,7 +419,7 @@ give_lends p planned would query old new small rule l gives = by gives.given giv
           other = 0;
           both = refl;
           spends = given_spends p planned would gives.state gives.after gives.piece old new obeys.0 rule l.within answers.awaits obeys.1 obeys.2;
-          fewer = left_sum (others new) (due_of p new) (others old) (due_of p old) (same_counts old new gives.counts) left.fewer;
+          fewer = sum_none (others new) (others old) (due_of p new) (due_of p old) (same_others old new gives.counts) left.fewer;
           sound = sound.0;
           fast = left.fast;
           few = left.few;

@@ -22,12 +22,13 @@ use Rattle.rv_bounded.specs.Calls.{Call, DoesAll, DoesCall, lost_by, lost_of}
 use Rattle.rv_bounded.specs.Calls.Call.{Step, StepLost, Take, TakeLost, Give}
 use Rattle.rv_bounded.proofs.Ahead.{ahead, greatest}
 use Rattle.rv_bounded.proofs.Controls.{is_behind}
-use Rattle.rv_bounded.proofs.Costs.{others, still_sum}
+use Rattle.rv_bounded.proofs.Costs.{others}
 use Rattle.rv_bounded.proofs.Fast.{Lending, LoanCosts, due_building, due_of, give_lends, lending_on, most}
 use Rattle.rv_bounded.proofs.FastSteps.{step_lends, step_lost_lends, take_lends, take_lost_lends}
 use Rattle.rv_bounded.proofs.Loans.{loans, loans_by, loans_first, most_by, part}
 use Rattle.rv_bounded.proofs.Sound.{first_sound}
-use Rattle.rv_bounded.proofs.WholeLaws.{Alone, add_lost, both_lost, eight_counts, none_risen, not_one, opened_ahead, room_for, same_less, small_all, small_pages, starts_of}
+use Rattle.rv_bounded.proofs.WholeLaws.{Alone, both_lost, eight_counts, not_one, opened_ahead, room_for, small_all, starts_of}
+use Rattle.rv_bounded.proofs.Sums.{same_less, zero_most, add_lost, small_pages, none_risen, still_sum}
 
 -- ONE CALL
 
@@ -68,9 +69,6 @@ all_lend p planned query shown (call ∷ calls) old new small pages l does =
 pub opened_both : (query : Query) (shown : Shown) (v : Shape) → Alone FastFirst query shown v → v.control ≡ Building
 opened_both query shown v opens = (starts_of query shown v opens).control ∙ ap (λ (s : Strategy). first_of s (has_scans v.joint.plans)) opens.alone
 
-none_built : (n most : ℕ) → n ≡ 0 → n ≤ most
-none_built n most e = omega (arith, e)
-
 pub opened_lending : (query : Query) (shown : Shown) (v : Shape) → Alone FastFirst query shown v → Lending query (shown.pages query.table query.snap) (length v.joint.plans) v
 opened_lending query shown v opens =
     let opened = opens.opened in
@@ -90,10 +88,10 @@ opened_lending query shown v opens =
       asked = opened.made.asked;
       sound = first_sound pages v.joint (ap (λ (j : Joint). j.counts) starts.joint) (ap (λ (j : Joint). j.building) starts.joint) (ap (λ (j : Joint). j.held) starts.joint) (ap (λ (j : Joint). j.list) starts.joint);
       fast = λ e. opens.alone;
-      few = λ e. none_built (length v.joint.building) (part pages v.joint.ended) (ap (λ (j : Joint). length j.building) starts.joint);
+      few = λ e. zero_most (length v.joint.building) (part pages v.joint.ended) (ap (λ (j : Joint). length j.building) starts.joint);
       kept = λ b. record {
-        built = none_built (length v.joint.building) v.guaranteed (ap (λ (j : Joint). length j.building) starts.joint);
-        listed = none_built (list_len v.joint.list) (most pages v + 48) (ap (λ (j : Joint). list_len j.list) starts.joint);
+        built = zero_most (length v.joint.building) v.guaranteed (ap (λ (j : Joint). length j.building) starts.joint);
+        listed = zero_most (list_len v.joint.list) (most pages v + 48) (ap (λ (j : Joint). list_len j.list) starts.joint);
       };
     }
 

@@ -37,18 +37,13 @@ use Rattle.rv_bounded.proofs.Controls.{is_behind}
 use Rattle.rv_bounded.proofs.Costs.{given_sound, others}
 use Rattle.rv_bounded.proofs.Fast.{Kept, Left, Lending, LoanCosts, due_alone, due_building, due_by, due_of, final_apart, from_costs, given_left, is_final, left_same, most, whole_of}
 use Rattle.rv_bounded.proofs.Loans.{loans, loans_borrowed, loans_passed, most_by, part}
-use Rattle.rv_bounded.proofs.Reading.{leaf_lost, rise_none, step_lost, step_spends, take_lost, take_spends}
+use Rattle.rv_bounded.proofs.Reading.{leaf_lost, step_lost, step_spends, take_lost, take_spends}
 use Rattle.rv_bounded.proofs.Sound.{Sound, short_held, taken_sound}
 use Rattle.rv_bounded.proofs.Spending.{Spends, Stays, within_on}
-use Rattle.rv_bounded.proofs.StepCosts.{counted_rise, lost_sound, no_more, record_few, record_pages, rise_piece, rise_sum, step_costs, step_lost_costs, takes_sound}
+use Rattle.rv_bounded.proofs.StepCosts.{counted_rise, lost_sound, no_more, record_few, record_pages, rise_piece, rise_sum, step_costs, step_lost_costs, takes_sound, leaf_list, same_others}
+use Rattle.rv_bounded.proofs.Sums.{at_most, less_same, record_sum, le_on, more_by, same_less, small_pages, rise_none, sum_none}
 
 -- A leaf that is taken leaves the lists.
-
-same_less : (a b : ℕ) → a ≡ b → a ≤ b
-same_less a b e = omega (arith, e)
-
-same_number : (n : ℕ) → n ≤ n
-same_number n = omega arith
 
 leaf_loans : (p borrowed : ℕ) (b : Bool) (old new : Joint) → TakesLeafBy b old new → loans p new borrowed ≡ loans p old borrowed
 leaf_loans p borrowed true old new t = ap (λ (j : Joint). loans p j borrowed) t.same
@@ -61,10 +56,6 @@ leaf_few p false old new e few = subst (λ (j : Joint). length j.building ≤ pa
 leaf_built : (b : Bool) (old new : Joint) → TakesLeafBy b old new → new.building ≡ old.building
 leaf_built true old new t = ap (λ (j : Joint). j.building) t.same
 leaf_built false old new e = ap (λ (j : Joint). j.building) e
-
-leaf_list : (b : Bool) (old new : Joint) → TakesLeafBy b old new → new.list ≡ old.list
-leaf_list true old new t = ap (λ (j : Joint). j.list) t.same
-leaf_list false old new e = ap (λ (j : Joint). j.list) e
 
 most_same : (p : ℕ) (old new : Shape) → new.joint.list ≡ old.joint.list → new.guaranteed ≡ old.guaranteed → most p new ≡ most p old
 most_same p old new list g = ap (λ (l : Option (List ℕ)). most_by l p new.guaranteed) list ∙ ap (most_by old.joint.list p) g
@@ -115,9 +106,6 @@ takes_left p query planned taken shown old new l takes =
       kept = λ b. kept_same p old new (leaf_built (is_background old.control) old.joint new.joint takes.leaves) list g (l.kept (ap is_background (sym control) ∙ b));
     }
 
-left_sum : (now left was had : ℕ) → now ≤ was → left ≤ had → now + left ≤ was + had + 0
-left_sum now left was had n l = omega (arith, n, l)
-
 pub take_lends : (p planned : ℕ) (query : Query) (taken : Taken) (shown : Shown) (old new : Shape) → p + 2 * planned < greatest → Lending query p planned old → Takes (Some taken) shown old new → LoanCosts p 0 old new
 take_lends p planned query taken shown old new small l takes =
     let left = takes_left p query planned (Some taken) shown old new l takes in
@@ -126,7 +114,7 @@ take_lends p planned query taken shown old new small l takes =
       other = 0;
       both = refl;
       spends = take_spends p planned taken shown old new small l.within takes;
-      fewer = left_sum (others new) (due_of p new) (others old) (due_of p old) (rise_piece old old new takes.before takes.behind takes.reads takes.counts) left.fewer;
+      fewer = sum_none (others new) (others old) (due_of p new) (due_of p old) (rise_piece old old new takes.before takes.behind takes.reads takes.counts) left.fewer;
       sound = takes_sound p planned (Some taken) shown old new l.within l.sound takes;
       fast = left.fast;
       few = left.few;
@@ -141,7 +129,7 @@ take_lost_lends p planned query shown old new small l takes =
       other = 0;
       both = refl;
       spends = take_lost p planned shown old new small l.within takes;
-      fewer = left_sum (others new) (due_of p new) (others old) (due_of p old) (rise_piece old old new takes.before takes.behind takes.reads takes.counts) left.fewer;
+      fewer = sum_none (others new) (others old) (due_of p new) (due_of p old) (rise_piece old old new takes.before takes.behind takes.reads takes.counts) left.fewer;
       sound = takes_sound p planned None shown old new l.within l.sound takes;
       fast = left.fast;
       few = left.few;
@@ -153,9 +141,6 @@ take_lost_lends p planned query shown old new small l takes =
 lost_left : (p : ℕ) (query : Query) (planned : ℕ) (shown : Shown) (old new : Shape) → Lending query p planned old → StepsLost shown old new → Left p old new
 lost_left p query planned shown old new l lost = by lost.only.leaves
   where
-    less_to : (now mid was : ℕ) → now ≤ mid → mid ≡ was → now ≤ was
-    less_to now mid was h e = omega (arith, h, e)
-
     control : new.control ≡ old.control
     control = ap (λ (x : Shape). x.control) lost.only.same
 
@@ -164,7 +149,7 @@ lost_left p query planned shown old new l lost = by lost.only.leaves
 
     ends : loans p new.joint old.borrowed ≡ loans p old.joint old.borrowed → new.joint.building ≡ old.joint.building → new.joint.list ≡ old.joint.list → (length old.joint.building ≤ part p old.joint.ended → length new.joint.building ≤ part p new.joint.ended) → Left p old new
     ends same built list few = record {
-      fewer = due_same p old new control (most_same p old new list g) (less_to (loans p new.joint new.borrowed) (loans p new.joint old.borrowed) (loans p old.joint old.borrowed) (loans_passed p new.joint old.borrowed new.borrowed lost.only.further) same) lost.only.fewer (ap (λ (x : Shape). x.last) lost.only.same);
+      fewer = due_same p old new control (most_same p old new list g) (less_same (loans p new.joint new.borrowed) (loans p new.joint old.borrowed) (loans p old.joint old.borrowed) (loans_passed p new.joint old.borrowed new.borrowed lost.only.further) same) lost.only.fewer (ap (λ (x : Shape). x.last) lost.only.same);
       fast = λ e. ap (λ (x : Shape). x.strategy) lost.only.same ∙ l.fast (sym control ∙ e);
       few = λ e. few (l.few (sym control ∙ e));
       kept = λ b. kept_same p old new built list g (l.kept (ap is_background (sym control) ∙ b));
@@ -173,9 +158,6 @@ lost_left p query planned shown old new l lost = by lost.only.leaves
     by : ((new.joint ≡ old.joint) ⊎ TakesLeaf old new.joint) → Left p old new
     by (inl same) = ends (ap (λ (j : Joint). loans p j old.borrowed) same) (ap (λ (j : Joint). j.building) same) (ap (λ (j : Joint). j.list) same) (λ few. subst (λ (j : Joint). length j.building ≤ part p j.ended) (sym same) few)
     by (inr leaves) = ends (leaf_loans p old.borrowed (is_background old.control) old.joint new.joint leaves) (leaf_built (is_background old.control) old.joint new.joint leaves) (leaf_list (is_background old.control) old.joint new.joint leaves) (λ few. leaf_few p (is_background old.control) old.joint new.joint leaves few)
-
-record_sum : (now left was had : ℕ) → now ≤ was + (0 + 1) → left ≤ had → now + left ≤ was + had + 1
-record_sum now left was had n l = omega (arith, n, l)
 
 kind_both : (old : Shape) → old.control ≡ Building → old.strategy ≡ FastFirst → kind_of old.control old.strategy (fresh_of old) ≡ while_both FastFirst (fresh_of old)
 kind_both old both fast = ap (λ (c : Control). kind_of c old.strategy (fresh_of old)) both ∙ ap (λ (s : Strategy). while_both s (fresh_of old)) fast
@@ -198,7 +180,7 @@ step_lost_lends p planned query shown old new small l lost = by old.control refl
       other = 0;
       both = refl;
       spends = spends;
-      fewer = left_sum (others new) (due_of p new) (others old) (due_of p old) (rise_piece old old new lost.before lost.behind reads lost.counts) left.fewer;
+      fewer = sum_none (others new) (others old) (due_of p new) (due_of p old) (rise_piece old old new lost.before lost.behind reads lost.counts) left.fewer;
       sound = sound;
       fast = left.fast;
       few = left.few;
@@ -212,7 +194,7 @@ step_lost_lends p planned query shown old new small l lost = by old.control refl
       both = refl;
       spends = record {
         stays = spends.stays;
-        fewer = left_sum new.trace.leaves (ahead p new.joint) old.trace.leaves (ahead p old.joint) (rise_none new.trace.leaves old.trace.leaves lost.before.leaves lost.behind.leaves greatest lost.counts.leaves (ap (λ (c : Counts). c.leaves) reads)) (fewer lost.only.leaves);
+        fewer = sum_none new.trace.leaves old.trace.leaves (ahead p new.joint) (ahead p old.joint) (rise_none new.trace.leaves old.trace.leaves lost.before.leaves lost.behind.leaves greatest lost.counts.leaves (ap (λ (c : Counts). c.leaves) reads)) (fewer lost.only.leaves);
       };
       fewer = record_sum (others new) (due_of p new) (others old) (due_of p old) (rise_sum new.trace.pages new.trace.fetches old.trace.pages old.trace.fetches lost.before.pages lost.behind.pages lost.before.records lost.behind.records 0 1 greatest lost.counts.pages lost.counts.fetches (no_more lost.behind.pages lost.before.pages (ap (λ (c : Counts). c.pages) reads)) (record_few lost.before lost.behind (inr reads))) left.fewer;
       sound = sound;
@@ -259,21 +241,6 @@ counted_lends p old stepped new c d e fewer sound fast few kept = record {
   kept = subst (λ (x : Shape). is_background x.control ≡ true → Kept p x) (sym e) (λ b. record { built = (kept b).built; listed = (kept b).listed });
 }
 
-less_same : (a b c : ℕ) → a ≤ b → b ≡ c → a ≤ c
-less_same a b c h e = omega (arith, h, e)
-
-less_twice : (a b c : ℕ) → a ≤ b → b ≤ c → a ≤ c
-less_twice a b c h k = omega (arith, h, k)
-
-same_others : (old new : Shape) → SameCounts old.trace new.trace → others new ≡ others old
-same_others old new s = both new.trace.pages new.trace.fetches old.trace.pages old.trace.fetches s.pages s.fetches
-  where
-    both : (a b c d : ℕ) → a ≡ c → b ≡ d → a + b ≡ c + d
-    both a b c d e f = omega (arith, e, f)
-
-same_most : (m a b : ℕ) → a ≤ b → m + a ≤ m + b
-same_most m a b h = omega (arith, h)
-
 -- a background step
 back_lends : (p planned : ℕ) (would : ℕ → Facts → Ruling) (state after : ℕ) (query : Query) (old stepped new : Shape) (c d : Counts) → p ≤ greatest → IsBounded would → Lending query p planned old → is_background old.control ≡ true → StepsBackground would state after old stepped → d ≡ piece_read old c → new ≡ record stepped { trace = counted stepped.trace c d } → Lends p old new
 back_lends p planned would state after query old stepped new c d small rule l back steps reads e = by (is_awaiting old) steps.does
@@ -285,14 +252,14 @@ back_lends p planned would state after query old stepped new c d small rule l ba
     passed = loans_passed p old.joint old.borrowed steps.passed steps.further
 
     ends : Left p old stepped → Sound p stepped.joint → others stepped ≡ others old → Lends p old new
-    ends left sound same = counted_lends p old stepped new c d e (left_sum (others new) (due_of p stepped) (others old) (due_of p old) (less_same (others new) (others stepped) (others old) (rise_piece old stepped new c d reads (counted_rise stepped new c d e)) same) left.fewer) sound left.fast left.few left.kept
+    ends left sound same = counted_lends p old stepped new c d e (sum_none (others new) (others old) (due_of p stepped) (due_of p old) (less_same (others new) (others stepped) (others old) (rise_piece old stepped new c d reads (counted_rise stepped new c d e)) same) left.fewer) sound left.fast left.few left.kept
 
     by : (b : Bool) → StepsBehind b would state after (record old { borrowed = steps.passed }) stepped → Lends p old new
     by true one =
         let mid = record old { borrowed = steps.passed; joint = one.taken } in
         let short = short_held one.taken.held one.piece.entries one.awaits.entries one.short in
         let taken = taken_sound p old.joint one.taken one.leaves l.within.room short l.sound in
-        let stays : Stays old mid = record { behind = λ b. b; plans = ap (λ (j : Joint). length j.plans) one.leaves.same; counts = long one.taken one.leaves; less = same_number old.guaranteed; asked = refl; apart = λ b. b } in
+        let stays : Stays old mid = record { behind = λ b. b; plans = ap (λ (j : Joint). length j.plans) one.leaves.same; counts = long one.taken one.leaves; less = at_most old.guaranteed; asked = refl; apart = λ b. b } in
         let within = within_on p planned old mid stays l.within in
         let given = given_sound p planned would state after one.piece mid stepped one.obeys.0 rule within small taken one.awaits one.obeys.1 one.obeys.2 in
         let few : old.control ≡ Building → length one.taken.building ≤ part p one.taken.ended = λ both. subst (λ (j : Joint). length j.building ≤ part p j.ended) (sym one.leaves.same) (l.few both) in
@@ -300,13 +267,13 @@ back_lends p planned would state after query old stepped new c d small rule l ba
         let left = given_left p planned would state after one.piece mid stepped one.obeys.0 rule within small taken back l.fast few kept one.awaits one.obeys.1 one.obeys.2 in
         let same : loans p one.taken steps.passed ≡ loans p old.joint steps.passed = ap (λ (j : Joint). loans p j steps.passed) one.leaves.same in
         let before : due_of p mid ≤ due_of p old = due_same p old mid refl (most_same p old mid (ap (λ (j : Joint). j.list) one.leaves.same) refl) (subst (λ (n : ℕ). n ≤ loans p old.joint old.borrowed) (sym same) passed) (same_less (length (keys_left one.taken.list old.at)) (length (keys_left old.joint.list old.at)) (ap (λ (j : Joint). length (keys_left j.list old.at)) one.leaves.same)) refl in
-        ends (record { fewer = less_twice (due_of p stepped) (due_of p mid) (due_of p old) left.fewer before; fast = left.fast; few = left.few; kept = left.kept }) given.0 (same_others mid stepped given.1)
+        ends (record { fewer = le_on (due_of p stepped) (due_of p mid) (due_of p old) left.fewer before; fast = left.fast; few = left.few; kept = left.kept }) given.0 (same_others mid stepped given.1)
       where
         long : (taken : Joint) → TakeLeaves old.joint taken → length taken.counts ≡ length old.joint.counts
         long taken t = ap (λ (j : Joint). length j.counts) t.same ∙ counts_long old.joint
     by false still =
         let mid = record old { borrowed = steps.passed } in
-        let left : Left p old mid = left_same p old mid back refl (same_number (most p old)) (λ both. same_most (most p old) (loans p old.joint steps.passed) (loans p old.joint old.borrowed) passed) l.fast l.few (record { built = own.built; listed = own.listed }) in
+        let left : Left p old mid = left_same p old mid back refl (at_most (most p old)) (λ both. more_by (most p old) (loans p old.joint steps.passed) (loans p old.joint old.borrowed) passed) l.fast l.few (record { built = own.built; listed = own.listed }) in
         ends (subst (Left p old) (sym still.0) left) (subst (λ (x : Shape). Sound p x.joint) (sym still.0) l.sound) (ap others still.0)
 
 -- a fresh key is one that is left of the list
@@ -413,9 +380,6 @@ list_ends s = refl
 
 table_ends : (s : Strategy) → is_final (next_control s FinalTable FinalEnded) ≡ true
 table_ends s = refl
-
-small_pages : (p planned most : ℕ) → p + 2 * planned < most → p ≤ most
-small_pages p planned most h = omega (arith, h)
 
 pub step_lends : (p planned : ℕ) (would : ℕ → Facts → Ruling) (query : Query) (shown : Shown) (old new : Shape) → p + 2 * planned < greatest → p ≡ shown.pages query.table query.snap → IsBounded would → Lending query p planned old → Steps would shown old new → LoanCosts p 0 old new
 step_lends p planned would query shown old new small pages rule l steps = by old.control refl

@@ -1,6 +1,6 @@
 -- The leaves that a background reads which runs alone, from its opening on.
-use Rattle.std.proofs.Common.{◌≡◌, ℕ, ◌+◌, ◌-◌, ◌*◌, ◌<◌, ◌≤◌, List, [], ◌∷◌, length, min, Bool, true, false, nat_lt, refl, ap, sym, ◌∙◌, subst, arith}
-use Rattle.std.proofs.lemmas.Bool.Decides.{nat_tests}
+use Rattle.std.proofs.Common.{◌≡◌, ℕ, ◌+◌, ◌-◌, ◌*◌, ◌<◌, ◌≤◌, List, [], ◌∷◌, length, Bool, true, false, nat_lt, refl, ap, sym, ◌∙◌, subst}
+use Rattle.std.proofs.lemmas.Bool.{ltb-true, ltb-false}
 use Rattle.rv_judge.specs.declared.events.Strategy.{Strategy}
 use Rattle.rv_judge.specs.declared.events.Strategy.TheVariants.{Table, BackgroundOnly, FastFirst, Sorted, IndexOnly, Union}
 use Rattle.rv_judge.specs.declared.judging.Facts.{Facts}
@@ -28,11 +28,9 @@ use Rattle.rv_bounded.proofs.Controls.{first_behind, is_behind}
 use Rattle.rv_bounded.proofs.Reading.{step_lost, step_spends, take_lost, take_spends}
 use Rattle.rv_bounded.proofs.Shares.{all_scans, to_read}
 use Rattle.rv_bounded.proofs.Spending.{Spends, Within, given_spends, stays_still, within_on}
+use Rattle.rv_bounded.proofs.Sums.{less_by, great_sum, same_less, zero_most, risen_most, add_lost, from_first, whole_sum, minus_less, none_risen, still_sum}
 
 -- A piece is given, the awaited one or another.
-
-still_sum : (n a : ℕ) → n + a ≤ n + a + 0
-still_sum n a = omega arith
 
 still_spends : (p : ℕ) (old new : Shape) → new ≡ old → Spends p 0 old new
 still_spends p old new e = subst (λ (x : Shape). Spends p 0 old x) (sym e) (record { stays = stays_still old; fewer = still_sum old.trace.leaves (ahead p old.joint) })
@@ -56,9 +54,6 @@ record AllSpend (p planned lost : ℕ) (old new : Shape) : Type 0 where
   within : Within p planned new
   fewer : new.trace.leaves + ahead p new.joint ≤ old.trace.leaves + ahead p old.joint + lost
 
-add_lost : (now mid was lost more : ℕ) → mid ≤ was + lost → now ≤ mid + more → now ≤ was + (lost + more)
-add_lost now mid was lost more h g = omega (arith, h, g)
-
 all_spend : (p planned : ℕ) (shown : Shown) (calls : List Call) (old new : Shape) → p + 2 * planned < greatest → Within p planned old → DoesAll calls shown old new → AllSpend p planned (lost_by calls) old new
 all_spend p planned shown [] old new small w does = subst (AllSpend p planned 0 old) (sym does) (record { within = w; fewer = still_sum old.trace.leaves (ahead p old.joint) })
 all_spend p planned shown (call ∷ calls) old new small w does =
@@ -71,27 +66,18 @@ all_spend p planned shown (call ∷ calls) old new small w does =
 
 -- A count stays at the greatest number.
 
-risen_most : (now risen most : ℕ) → now ≡ min risen most → now ≤ most
-risen_most now risen most e = omega (arith, e)
-
-same_most : (now was most : ℕ) → now ≡ was → was ≤ most → now ≤ most
-same_most now was most e h = omega (arith, e, h)
-
 call_counted : (call : Call) (would : ℕ → Facts → Ruling) (shown : Shown) (old new : Shape) → DoesCall call would shown old new → old.trace.leaves ≤ greatest → new.trace.leaves ≤ greatest
 call_counted Step would shown old new does most = risen_most new.trace.leaves (does.does.stepped.trace.leaves + (does.behind.leaves - does.before.leaves)) greatest (ap (λ (x : Shape). x.trace.leaves) does.does.counts)
 call_counted StepLost would shown old new does most = risen_most new.trace.leaves (old.trace.leaves + (does.behind.leaves - does.before.leaves)) greatest does.counts.leaves
 call_counted Take would shown old new does most = risen_most new.trace.leaves (old.trace.leaves + (does.1.behind.leaves - does.1.before.leaves)) greatest does.1.counts.leaves
 call_counted TakeLost would shown old new does most = risen_most new.trace.leaves (old.trace.leaves + (does.behind.leaves - does.before.leaves)) greatest does.counts.leaves
-call_counted Give would shown old new does most = same_most new.trace.leaves old.trace.leaves greatest does.counts.leaves most
+call_counted Give would shown old new does most = less_by new.trace.leaves old.trace.leaves greatest does.counts.leaves most
 
 all_counted : (calls : List Call) (shown : Shown) (old new : Shape) → DoesAll calls shown old new → old.trace.leaves ≤ greatest → new.trace.leaves ≤ greatest
 all_counted [] shown old new does most = subst (λ (x : Shape). x.trace.leaves ≤ greatest) (sym does) most
 all_counted (call ∷ calls) shown old new does most = call_counted call does.2.would shown does.0 new does.2.does (all_counted calls shown old does.0 does.1 most)
 
 -- AT OPENING
-
-same_less : (a b : ℕ) → a ≡ b → a ≤ b
-same_less a b e = omega (arith, e)
 
 -- the table's pages are guaranteed
 first_pages : (s : Strategy) (pages estimate : ℕ) → is_led s ≡ false → first_guarantee s pages estimate ≡ pages
@@ -119,12 +105,6 @@ opened_within query shown v opens =
       less = same_less v.guaranteed pages bound;
     }
 
-minus_less : (new whole taken all most : ℕ) → new ≡ whole - taken → whole ≡ all → all ≤ most → new ≤ most
-minus_less new whole taken all most n w h = omega (arith, n, w, h)
-
-from_first : (n : ℕ) → n - 0 ≡ n
-from_first n = omega arith
-
 opened_ahead : (p cursor opening : ℕ) (v : Shape) → Starts cursor opening v → ahead p v.joint ≤ p + 2 * length v.joint.plans
 opened_ahead p cursor opening v starts =
     let first : v.joint.ended ≡ 0 = ap (λ (j : Joint). j.ended) starts.joint in
@@ -133,24 +113,6 @@ opened_ahead p cursor opening v starts =
     minus_less (ahead p v.joint) (to_read p v.joint.ended (length v.joint.plans - v.joint.ended)) _ (to_read p 0 (length v.joint.plans)) (p + 2 * length v.joint.plans) refl all (all_scans p (length v.joint.plans))
 
 -- THE LAW
-
-none_risen : (now n most : ℕ) → now ≡ min (0 + (n - n)) most → now ≡ 0
-none_risen now n most e = omega (arith, e)
-
-zero_most : (n most : ℕ) → n ≡ 0 → n ≤ most
-zero_most n most e = omega (arith, e)
-
-whole_sum : (now left was had most lost : ℕ) → now + left ≤ was + had + lost → was ≡ 0 → had ≤ most → now ≤ most + lost
-whole_sum now left was had most lost h z m = omega (arith, h, z, m)
-
-great_sum : (now most bound lost : ℕ) → now ≤ most → most ≤ bound → now ≤ bound + lost
-great_sum now most bound lost h m = omega (arith, h, m)
-
-is_less : (a b : ℕ) → nat_lt a b ≡ true → a < b
-is_less a b test = grind (arith, nat_tests)
-
-is_more : (a b : ℕ) → nat_lt a b ≡ false → b ≤ a
-is_more a b test = grind (arith, nat_tests)
 
 pub leaves_few : LeavesAreFew
 leaves_few query shown calls opened now opens does = by (nat_lt (p + 2 * planned) greatest) refl
@@ -169,6 +131,6 @@ leaves_few query shown calls opened now opens does = by (nat_lt (p + 2 * planned
 
     by : (b : Bool) → nat_lt (p + 2 * planned) greatest ≡ b → now.trace.leaves ≤ p + 2 * planned + lost_by calls
     by true test =
-        let spent = all_spend p planned shown calls opened now (is_less (p + 2 * planned) greatest test) (opened_within query shown opened opens) does in
+        let spent = all_spend p planned shown calls opened now (ltb-true (p + 2 * planned) greatest test) (opened_within query shown opened opens) does in
         whole_sum now.trace.leaves (ahead p now.joint) opened.trace.leaves (ahead p opened.joint) (p + 2 * planned) (lost_by calls) spent.fewer none (opened_ahead p opens.cursor opens.opening opened starts)
-    by false test = great_sum now.trace.leaves greatest (p + 2 * planned) (lost_by calls) (all_counted calls shown opened now does (zero_most opened.trace.leaves greatest none)) (is_more (p + 2 * planned) greatest test)
+    by false test = great_sum now.trace.leaves greatest (p + 2 * planned) (lost_by calls) (all_counted calls shown opened now does (zero_most opened.trace.leaves greatest none)) (ltb-false (p + 2 * planned) greatest test)

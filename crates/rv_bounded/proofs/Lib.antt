@@ -1,3 +1,4 @@
+pub mod Sums
 pub mod Shares
 pub mod Ahead
 pub mod Controls

@@ -9,6 +9,7 @@ use Rattle.rv_jscan.specs.Joint.{Joint}
 use Rattle.rv_jscan.specs.Steps.{abandoned, completed}
 use Rattle.rv_retrieval.specs.Shape.{lending, lending_of}
 use Rattle.rv_bounded.specs.Bounds.{spare}
+use Rattle.rv_bounded.proofs.Sums.{le_on, after}
 
 -- THE KEYS THAT THE SCAN AT A POSITION LENDS AT MOST: as many as an eighth of the pages, the next one a sixteenth, and so
 -- on by halves
@@ -21,9 +22,6 @@ part_within kept g p scan fewer less =
     let some = pow_pos scan in
     let turned = mul_comm kept (8 * 2 ^ scan) in
     le-div kept p (8 * 2 ^ scan) (omega (arith, some)) (omega (arith, turned, fewer, less))
-
-after : (n : ℕ) → n + 1 ≡ suc n
-after n = omega arith
 
 -- each is half of the one before it
 half_part : (p scan : ℕ) → part p (scan + 1) ≡ part p scan / 2
@@ -158,9 +156,6 @@ whole_some now keys q rest gone left ended planned g k l n h = omega (arith, k, 
 least_of : (now keys q : ℕ) → now ≤ keys → keys ≤ q + 48 → now ≤ q + 48
 least_of now keys q n k = omega (arith, n, k)
 
-least_all : (now g p : ℕ) → now ≤ g → g ≤ p → now ≤ p
-least_all now g p n h = omega (arith, n, h)
-
 pub loans_completed : (p : ℕ) (j : Joint) (borrowed g now : ℕ) (entries : List IndexEntry) (keys : List ℕ) → length keys ≤ part p j.ended + 48 → now ≤ length keys → now ≤ g → g ≤ p → j.ended + 1 < length j.plans → now + loans p (completed j entries keys) 0 ≤ most_by j.list p g + loans p j borrowed
 loans_completed p j borrowed g now entries keys few least less within more = by j.list
   where
@@ -168,7 +163,7 @@ loans_completed p j borrowed g now entries keys few least less within more = by 
     planned = length j.plans
 
     by : (list : Option (List ℕ)) → now + ((length keys - 0) + parts_from p (j.ended + 1) (planned - (j.ended + 1)) + 48 * (planned - (j.ended + 1 + 1))) ≤ most_by list p g + (loans_by list p planned j.ended borrowed + 48 * (planned - (j.ended + 1)))
-    by None = whole_none now (length keys) (part p j.ended) (parts_from p (j.ended + 1) (planned - (j.ended + 1))) (part p j.ended - borrowed) (spare p) j.ended planned p few (spare_fits now (part p j.ended) p (part_first p j.ended) (least_of now (length keys) (part p j.ended) least few) (least_all now g p less within)) more
+    by None = whole_none now (length keys) (part p j.ended) (parts_from p (j.ended + 1) (planned - (j.ended + 1))) (part p j.ended - borrowed) (spare p) j.ended planned p few (spare_fits now (part p j.ended) p (part_first p j.ended) (least_of now (length keys) (part p j.ended) least few) (le_on now g p less within)) more
     by (Some had) = whole_some now (length keys) (part p j.ended) (parts_from p (j.ended + 1) (planned - (j.ended + 1))) (length had - borrowed) (parts_from p j.ended (planned - j.ended)) j.ended planned g few (first_part p j.ended planned (less_one j.ended planned more)) less more
 
 -- at opening

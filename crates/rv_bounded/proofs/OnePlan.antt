@@ -175,9 +175,6 @@ all_kept P shown (call ∷ calls) lost old new keeps s start made =
 
 -- what was lost
 
-pub none_lost : (lost : ℕ) → 0 ≤ lost
-none_lost lost = omega arith
-
 pub more_lost : (all one m k n : ℕ) → all ≤ m → one ≤ k → m + k ≤ n → all + one ≤ n
 more_lost all one m k n h g l = omega (arith, h, g, l)
 

@@ -43,8 +43,9 @@ use Rattle.rv_bounded.proofs.Ahead.{ahead, greatest}
 use Rattle.rv_bounded.proofs.Costs.{rest_back, rest_of}
 use Rattle.rv_bounded.proofs.Fast.{due_of}
 use Rattle.rv_bounded.proofs.FastLaws.{all_lend, opened_both, opened_due, opened_lending, some_plans}
-use Rattle.rv_bounded.proofs.OnePlan.{DoesHere, Kept, KeepsOn, all_kept, less_lost, more_lost, none_lost, told_here}
+use Rattle.rv_bounded.proofs.OnePlan.{DoesHere, Kept, KeepsOn, all_kept, less_lost, more_lost, told_here}
 use Rattle.rv_bounded.proofs.WholeLaws.{Alone, all_cost, opened_ahead, opened_back, opened_whole, small_all}
+use Rattle.rv_bounded.proofs.Sums.{zero_least}
 
 -- THE CALLS OF A PLAN ARE CALLS OF ITS RETRIEVAL
 
@@ -82,7 +83,7 @@ taken_call : (lost : ℕ) (would : ℕ → Facts → Ruling) (shown : Shown) (c 
 taken_call lost would shown c d v w rule leaf reads fits rise within = by (retrieval_awaited w.value) w.value.joint.held refl refl within
   where
     found : ((taken : Taken) × TakesPiece w.value taken) → Called shown lost v (Competing w)
-    found (taken, answers) = record { box = w; is = refl; call = Take; would = would; bounded = rule; does = (taken, record { before = c; behind = d; same = leaf.same; leaves = leaf.leaves; reads = reads; answers = answers; fits = fits; counts = rise }); within = none_lost lost }
+    found (taken, answers) = record { box = w; is = refl; call = Take; would = would; bounded = rule; does = (taken, record { before = c; behind = d; same = leaf.same; leaves = leaf.leaves; reads = reads; answers = answers; fits = fits; counts = rise }); within = zero_least lost }
 
     by : (o : Option PieceId) (h : Option Chunk) → retrieval_awaited w.value ≡ o → w.value.joint.held ≡ h → (if is_some o && not (is_some h) then 1 else 0) ≤ lost → Called shown lost v (Competing w)
     by None h awaits held within = found (Nothing, awaits)
@@ -93,7 +94,7 @@ call_of : (lost : ℕ) (would : ℕ → Facts → Ruling) (shown : Shown) (v : B
 call_of lost would shown v (Competing w) rule fits (inl (Some fg, steps, within)) = record { box = w; is = refl; call = Step; would = would; bounded = rule; does = record { state = steps.state; after = steps.after; before = steps.before; behind = steps.behind; fg = fg; does = steps.calls.does }; within = within }
 call_of lost would shown v (Competing w) rule fits (inl (None, steps, within)) = record { box = w; is = refl; call = StepLost; would = would; bounded = rule; does = record { before = steps.before; behind = steps.behind; only = (steps.calls.wants refl).2; may_read = steps.calls.may_read; fits = fits; counts = steps.counts }; within = within }
 call_of lost would shown v (Competing w) rule fits (inr (inl (takes, within))) = taken_call lost would shown takes.before takes.behind v.value w rule takes.leaf takes.reads fits takes.counts within
-call_of lost would shown v (Competing w) rule fits (inr (inr gives)) = record { box = w; is = refl; call = Give; would = would; bounded = rule; does = record { state = gives.state; after = gives.after; piece = gives.piece; given = Accepted; answers = gives.awaits; obeys = gives.obeys; counts = gives.counts }; within = none_lost lost }
+call_of lost would shown v (Competing w) rule fits (inr (inr gives)) = record { box = w; is = refl; call = Give; would = would; bounded = rule; does = record { state = gives.state; after = gives.after; piece = gives.piece; given = Accepted; answers = gives.awaits; obeys = gives.obeys; counts = gives.counts }; within = zero_least lost }
 call_of lost would shown v (Racing r) rule fits (inl (Some fg, steps, within)) = absurd steps.calls.does
 call_of lost would shown v (Racing r) rule fits (inl (None, steps, within)) = absurd ((steps.calls.wants refl).2)
 call_of lost would shown v (Racing r) rule fits (inr (inl (takes, within))) = absurd takes.leaf
@@ -149,7 +150,7 @@ opens_alone shown opened v opens alone =
 -- where a plan stands behind such calls
 went : (shown : Shown) (calls : List PlanCall) (lost : ℕ) (opened now : Planned) (v : Box Shape Global) → PlanOpens shown opened v → PlanSpendsAll calls shown lost opened now → Kept (Reached shown v.value) shown lost now
 went shown calls lost opened now v opens made =
-    all_kept (Reached shown v.value) shown calls lost opened now (reached_on shown v.value) (record { fits = opens.begins.fits; one = opens.begins.one }) (λ n. record { box = v; is = opens.begins.here; calls = []; made = refl; within = none_lost n }) made
+    all_kept (Reached shown v.value) shown calls lost opened now (reached_on shown v.value) (record { fits = opens.begins.fits; one = opens.begins.one }) (λ n. record { box = v; is = opens.begins.here; calls = []; made = refl; within = zero_least n }) made
 
 told_as : (shown : Shown) (p : Planned) (v : Box Shape Global) → PlanFits shown p → IsAlone p → p.stack.at.here ≡ Competing v → reads_told (plan_trace p) ≡ reads_told v.value.trace
 told_as shown p v fits one here = told_here shown p fits one ∙ ap (λ (a : Access). reads_told (trace_of a)) here

@@ -1,7 +1,8 @@
 -- How many leaves the scans of a race may still read where they keep to their shares.
 use Rattle.std.proofs.Common.{◌≡◌, ℕ, ◌+◌, ◌-◌, ◌<◌, ◌≤◌, List, length, slice_set, min, Bool, true, false, not, ◌&&◌, ◌||◌, Option, Some, None, IfSome, is_some, nat_lt, refl, ap, sym, subst, arith, if◌then◌else◌}
-use Rattle.std.proofs.lemmas.Bool.Decides.{nat_tests}
 use Rattle.std.proofs.lemmas.List.{get_or-set_other, get_or-set_same}
+use Rattle.std.proofs.lemmas.Bool.{ltb-true}
+use Rattle.std.specs.Cmp.{second_so}
 use Rattle.rv_reader.specs.declared.reader.Chunk.{Chunk}
 use Rattle.rv_jscan.specs.declared.jscan.ScanCounts.{ScanCounts}
 use Rattle.rv_jscan.specs.Joint.{counts_at, no_counts}
@@ -11,6 +12,7 @@ use Rattle.rv_race.specs.Ways.{advanced, followed, followed_by, has_next, joined
 use Rattle.skew_judges.specs.Guard.{share}
 use Rattle.rv_bounded.proofs.Ahead.{held_one}
 use Rattle.rv_bounded.proofs.Shares.{first_scan, to_read}
+use Rattle.rv_bounded.proofs.Sums.{at_most, le_on}
 
 -- the leaves ahead of a scan under way: two and its share, less those that it has read of its own
 abbrev pub left_at : ℕ → List ScanCounts → ℕ → Option Chunk → ℕ
@@ -43,11 +45,8 @@ pub record Runs (planned : ℕ) (w : Running) : Type 0 where
 swapped : (a b c d : ℕ) → d ≡ b → a + b + c ≤ a + c + d
 swapped a b c d e = omega (arith, e)
 
-same_sum : (n : ℕ) → n ≤ n
-same_sum n = omega arith
-
 turned_left : (p planned : ℕ) (counts : List ScanCounts) (w : Running) (o : Option Runner) → w.other ≡ o → race_sum p planned counts (turned_to o w) ≤ race_sum p planned counts w
-turned_left p planned counts w None e = same_sum (race_sum p planned counts w)
+turned_left p planned counts w None e = at_most (race_sum p planned counts w)
 turned_left p planned counts w (Some o) e = swapped (to_read p w.next (planned - w.next)) (turn_left p counts o) (turn_left p counts w.turn) (other_left p counts w.other) (ap (other_left p counts) e)
 
 pub turned_fewer : (p planned : ℕ) (counts : List ScanCounts) (w : Running) → race_sum p planned counts (turned w) ≤ race_sum p planned counts w
@@ -74,12 +73,9 @@ alone_less a b d e = omega (arith, e)
 with_other : (a b d : ℕ) → a ≤ b + 0 → a ≤ b + d
 with_other a b d h = omega (arith, h)
 
-is_less : (a b : ℕ) → nat_lt a b ≡ true → a < b
-is_less a b test = grind (arith, nat_tests)
-
 followed_left : (p planned : ℕ) (counts : List ScanCounts) (w : Running) (o : Option Runner) → w.other ≡ o → (is_some o || nat_lt w.next planned) ≡ true → race_sum p planned counts (followed_by o w) ≤ rest_sum p planned counts w
 followed_left p planned counts w None e more =
-    with_other (to_read p (w.next + 1) (planned - (w.next + 1)) + left_at p counts w.next None + 0) (to_read p w.next (planned - w.next)) (other_left p counts w.other) (begun_less (to_read p w.next (planned - w.next)) (to_read p (w.next + 1) (planned - (w.next + 1))) (share p w.next) (min (counts_at counts w.next).leaves (1 + share p w.next + 0)) (first_scan p w.next planned (is_less w.next planned more)))
+    with_other (to_read p (w.next + 1) (planned - (w.next + 1)) + left_at p counts w.next None + 0) (to_read p w.next (planned - w.next)) (other_left p counts w.other) (begun_less (to_read p w.next (planned - w.next)) (to_read p (w.next + 1) (planned - (w.next + 1))) (share p w.next) (min (counts_at counts w.next).leaves (1 + share p w.next + 0)) (first_scan p w.next planned (ltb-true w.next planned more)))
 followed_left p planned counts w (Some o) e more = alone_less (to_read p w.next (planned - w.next)) (turn_left p counts o) (other_left p counts w.other) (ap (other_left p counts) e)
 
 one_below : (n : ℕ) → n < n + 1
@@ -92,7 +88,7 @@ one_within : (a b : ℕ) → a < b → a + 1 ≤ b
 one_within a b h = omega (arith, h)
 
 followed_runs : (planned : ℕ) (w : Running) (o : Option Runner) → w.other ≡ o → (is_some o || nat_lt w.next planned) ≡ true → Runs planned w → Runs planned (followed_by o w)
-followed_runs planned w None e more s = record { turn = one_below w.next; other = tt; apart = tt; next = one_within w.next planned (is_less w.next planned more) }
+followed_runs planned w None e more s = record { turn = one_below w.next; other = tt; apart = tt; next = one_within w.next planned (ltb-true w.next planned more) }
 followed_runs planned w (Some o) e more s = record { turn = subst (λ (x : Option Runner). IfSome x (λ y. y.scan < w.next)) e s.other; other = tt; apart = tt; next = s.next }
 
 -- no other scan goes on beside it
@@ -113,12 +109,6 @@ not_same a b h e = absurd (omega (arith, h, e))
 joined_runs : (planned : ℕ) (w : Running) → w.next < planned → Runs planned w → Runs planned (joined w)
 joined_runs planned w lt s = record { turn = less_one w.turn.scan w.next s.turn; other = one_below w.next; apart = not_same w.turn.scan w.next s.turn; next = one_within w.next planned lt }
 
-le_on : (a b c : ℕ) → a ≤ b → b ≤ c → a ≤ c
-le_on a b c h g = omega (arith, h, g)
-
-right_true : (a b : Bool) → (a && b) ≡ true → b ≡ true
-right_true a b h = grind arith
-
 pub advanced_fewer : (p planned : ℕ) (counts : List ScanCounts) (listed : Bool) (w : Running) → has_next planned w ≡ true → race_sum p planned counts (advanced listed planned w) ≤ rest_sum p planned counts w
 advanced_fewer p planned counts listed w more = by (not listed && nat_lt (followed w).next planned) refl
   where
@@ -126,7 +116,7 @@ advanced_fewer p planned counts listed w more = by (not listed && nat_lt (follow
     first = followed_left p planned counts w w.other refl more
 
     by : (b : Bool) → (not listed && nat_lt (followed w).next planned) ≡ b → race_sum p planned counts (if b then joined (followed w) else followed w) ≤ rest_sum p planned counts w
-    by true test = le_on (race_sum p planned counts (joined (followed w))) (race_sum p planned counts (followed w)) (rest_sum p planned counts w) (joined_left p planned counts (followed w) (is_less (followed w).next planned (right_true (not listed) (nat_lt (followed w).next planned) test)) (followed_alone w w.other)) first
+    by true test = le_on (race_sum p planned counts (joined (followed w))) (race_sum p planned counts (followed w)) (rest_sum p planned counts w) (joined_left p planned counts (followed w) (ltb-true (followed w).next planned (second_so (not listed) (nat_lt (followed w).next planned) test)) (followed_alone w w.other)) first
     by false test = first
 
 pub advanced_runs : (planned : ℕ) (listed : Bool) (w : Running) → has_next planned w ≡ true → Runs planned w → Runs planned (advanced listed planned w)
@@ -136,7 +126,7 @@ advanced_runs planned listed w more s = by (not listed && nat_lt (followed w).ne
     first = followed_runs planned w w.other refl more s
 
     by : (b : Bool) → (not listed && nat_lt (followed w).next planned) ≡ b → Runs planned (if b then joined (followed w) else followed w)
-    by true test = joined_runs planned (followed w) (is_less (followed w).next planned (right_true (not listed) (nat_lt (followed w).next planned) test)) first
+    by true test = joined_runs planned (followed w) (ltb-true (followed w).next planned (second_so (not listed) (nat_lt (followed w).next planned) test)) first
     by false test = first
 
 -- THE COUNTS OF THE SCAN WHOSE TURN IT IS change, and not those of the other one.

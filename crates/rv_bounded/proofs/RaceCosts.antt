@@ -40,12 +40,14 @@ use Rattle.rv_bounded.specs.Calls.Call.{Step, StepLost, Take, TakeLost, Give}
 use Rattle.rv_bounded.specs.RaceReads.{RaceAllOver, RaceOver, RacesAreBounded}
 use Rattle.rv_bounded.specs.Races.{RaceDoesAll, RaceDoesCall, RaceGives, RaceSteps, RaceStepsLost, RaceTakes}
 use Rattle.rv_bounded.proofs.Ahead.{greatest}
-use Rattle.rv_bounded.proofs.RaceLaws.{Leafs, Placed, RaceSpends, accepted_room, all_dropped, below_room, give_spends, idle_spends, leafs_placed, least_less, not_racing, one_page, one_record, only_leafs, only_racing, opened_most, opened_placed, other_below, race_ahead, scan_dropped, scans_over, step_lost, step_spends, take_lost, take_spends, takes_leafs}
+use Rattle.rv_bounded.proofs.RaceLaws.{Leafs, Placed, RaceSpends, accepted_room, all_dropped, below_room, give_spends, idle_spends, leafs_placed, least_less, not_racing, only_leafs, only_racing, opened_most, opened_placed, other_below, race_ahead, scan_dropped, scans_over, step_lost, step_spends, take_lost, take_spends, takes_leafs}
 use Rattle.rv_bounded.proofs.RaceSound.{RestSound, RunsSound, accepted_rest_sound, advanced_sound, first_sound, goes_sound, held_by, held_sound, kept_at, leaf_sound, list_sound, narrowed_sound, turned_sound, turn_capped, turn_scanned}
 use Rattle.rv_bounded.proofs.Sound.{IsShort, held_short, keeps_fewer, short_held}
-use Rattle.rv_bounded.proofs.Stages.{behind, drawn_short, list_fewer, lost_sum, none_lost, others_of, others_same, page_rise, record_rise, same_others, stage_by, stage_less, stage_most, still_sum, sum_to, table_fewer}
+use Rattle.rv_bounded.proofs.Stages.{behind, drawn_short, list_fewer, others_of, others_same, page_rise, record_rise, same_others, stage_by, stage_less, stage_most, sum_to, table_fewer}
 use Rattle.rv_bounded.proofs.Costs.{back_sum}
-use Rattle.rv_bounded.proofs.WholeLaws.{add_lost, both_lost, same_less, whole_sum}
+use Rattle.rv_bounded.proofs.WholeLaws.{both_lost, whole_sum}
+use Rattle.rv_bounded.proofs.Sums.{same_less, add_lost, sum_none, sum_lost, still_sum}
+use Rattle.rv_bounded.proofs.Reading.{one_record, one_page}
 
 -- a list has no more keys than so many
 abbrev IsFew : ℕ → List ℕ → Type 0
@@ -190,7 +192,7 @@ give_costs p planned would old new small rule w gives = by gives.given gives.ans
       other = 0;
       both = refl;
       spends = spends;
-      fewer = still_sum (others_of new.trace) (stage_of p new) (others_of old.trace) (stage_of p old) (same_others old.trace new.trace gives.counts) (same_less (stage_of p new) (stage_of p old) (ap (stage_of p) obeys.0));
+      fewer = sum_none (others_of new.trace) (others_of old.trace) (stage_of p new) (stage_of p old) (same_others old.trace new.trace gives.counts) (same_less (stage_of p new) (stage_of p old) (ap (stage_of p) obeys.0));
       sound = subst (RaceSound p) (sym obeys.0) w.sound;
     }
 
@@ -232,7 +234,7 @@ takes_costs p planned lost taken shown old new spends w takes fits sum = record 
   other = 0;
   both = sum;
   spends = spends;
-  fewer = still_sum (others_of new.trace) (stage_of p new) (others_of old.trace) (stage_of p old) (piece_others old old.trace new.trace takes.before takes.behind takes.counts takes.reads) (same_less (stage_of p new) (stage_of p old) (ap (stage_of p) takes.leaves.same));
+  fewer = sum_none (others_of new.trace) (others_of old.trace) (stage_of p new) (stage_of p old) (piece_others old old.trace new.trace takes.before takes.behind takes.counts takes.reads) (same_less (stage_of p new) (stage_of p old) (ap (stage_of p) takes.leaves.same));
   sound = taken_sound p planned old new w.placed (takes_leafs old new takes.leaves) (ap (λ (x : Raced). x.list) takes.leaves.same) (fits_short new shown fits) w.sound;
 }
 
@@ -259,11 +261,11 @@ lost_costs p planned shown old new small w lost fits = by old.control refl lost.
 
     -- a leaf at most was read
     leaf_lost : others_of new.trace ≤ others_of old.trace → RaceCosts p planned 1 old new
-    leaf_lost none = costs 1 0 refl (step_lost p planned old new small w.placed lost) (still_sum (others_of new.trace) (stage_of p new) (others_of old.trace) (stage_of p old) none stage)
+    leaf_lost none = costs 1 0 refl (step_lost p planned old new small w.placed lost) (sum_none (others_of new.trace) (others_of old.trace) (stage_of p new) (stage_of p old) none stage)
 
     -- a record or a page at most
     other_lost : racing old.control ≡ false → lost.behind.leaves ≡ lost.before.leaves → others_of new.trace ≤ others_of old.trace + 1 → RaceCosts p planned 1 old new
-    other_lost off none one = costs 0 1 refl (idle_spends p planned old new lost.before lost.behind w.placed leafs off lost.counts none) (lost_sum (others_of new.trace) (stage_of p new) (others_of old.trace) (stage_of p old) one stage)
+    other_lost off none one = costs 0 1 refl (idle_spends p planned old new lost.before lost.behind w.placed leafs off lost.counts none) (sum_lost (others_of new.trace) (others_of old.trace) (stage_of p new) (stage_of p old) one stage)
 
     unread : lost.behind ≡ lost.before → RaceCosts p planned 1 old new
     unread same = leaf_lost (others_same old.trace new.trace lost.before lost.behind lost.counts (ap (λ (x : Counts). x.pages) same) (ap (λ (x : Counts). x.records) same))
@@ -336,7 +338,7 @@ does_others p planned would state after shown c d s FinalList old stepped new sm
 does_others p planned would state after shown c d s FinalTable old stepped new small pages rule w is does rise e =
     stage_others p s FinalTable old (record old { last = stepped.last }) stepped new c d (p - old.last.next) refl refl is refl does.2 e w.sound (stage_at p old FinalTable is) (λ now. table_fewer (p + 48) p (keys_work stepped) old.last stepped.last old.trace new.trace c d s stepped.control rise does.1 (subst (λ (n : ℕ). PageTurns s old.last stepped.last n) pages does.3) now)
 does_others p planned would state after shown c d s Done old stepped new small pages rule w is does rise e = record {
-  fewer = still_sum (others_of new.trace) (stage_of p new) (others_of old.trace) (stage_of p old) (others_same old.trace new.trace c d rise (ap (λ (x : Counts). x.pages) does.2) (ap (λ (x : Counts). x.records) does.2)) (same_less (stage_of p new) (stage_of p old) (ap (stage_of p) e ∙ ap (stage_of p) does.3));
+  fewer = sum_none (others_of new.trace) (others_of old.trace) (stage_of p new) (stage_of p old) (others_same old.trace new.trace c d rise (ap (λ (x : Counts). x.pages) does.2) (ap (λ (x : Counts). x.records) does.2)) (same_less (stage_of p new) (stage_of p old) (ap (stage_of p) e ∙ ap (stage_of p) does.3));
   sound = counted_sound p stepped new c d e (subst (RaceSound p) (sym does.3) w.sound);
 }
 
@@ -371,7 +373,7 @@ record AllCost (p planned lost : ℕ) (old new : Raced) : Type 0 where
   fewer : others_of new.trace + stage_of p new ≤ others_of old.trace + stage_of p old + other
 
 all_cost : (p planned : ℕ) (calls : List Call) (old new : Raced) → p + 2 * planned < greatest → p ≤ greatest → RaceWhole p planned old → (does : RaceDoesAll calls old new) → RaceAllOver calls p old new does → AllCost p planned (lost_by calls) old new
-all_cost p planned [] old new small most w does over = subst (AllCost p planned 0 old) (sym does) (record { whole = w; leaf = 0; other = 0; both = refl; leaves = none_lost old.trace.leaves (race_ahead p planned old); fewer = none_lost (others_of old.trace) (stage_of p old) })
+all_cost p planned [] old new small most w does over = subst (AllCost p planned 0 old) (sym does) (record { whole = w; leaf = 0; other = 0; both = refl; leaves = still_sum old.trace.leaves (race_ahead p planned old); fewer = still_sum (others_of old.trace) (stage_of p old) })
 all_cost p planned (call ∷ calls) old new small most w does over =
     let mid = does.0 in
     let before = all_cost p planned calls old mid small most w does.1 over.0 in

@@ -1,9 +1,9 @@
 -- The leaves that a race reads, from its opening on.
-use Rattle.std.proofs.Common.{◌≡◌, ℕ, ◌+◌, ◌-◌, ◌*◌, ◌<◌, ◌≤◌, List, [], ◌∷◌, length, length-set, min, Bool, true, false, not, ◌&&◌, Option, Some, None, IfSome, is_some, nat_lt, inl, inr, refl, ap, sym, ◌∙◌, subst, arith, if◌then◌else◌}
-use Rattle.std.proofs.lemmas.Bool.Decides.{nat_tests}
+use Rattle.std.proofs.Common.{◌≡◌, ℕ, ◌+◌, ◌-◌, ◌*◌, ◌<◌, ◌≤◌, List, [], ◌∷◌, length, length-set, min, Bool, true, false, not, Option, Some, None, IfSome, is_some, nat_lt, refl, ap, sym, ◌∙◌, subst, arith, if◌then◌else◌}
+use Rattle.std.specs.Cmp.{first_so}
+use Rattle.std.proofs.lemmas.Bool.{ltb-true, ltb-false}
 use Rattle.rv_value.proofs.Tests.{no_other}
 use Rattle.rv_value.specs.declared.record.IndexEntry.{IndexEntry}
-use Rattle.rv_value.specs.declared.record.Record.{Record}
 use Rattle.rv_judge.specs.declared.counting.Counts.{Counts}
 use Rattle.rv_judge.specs.declared.events.Control.{Control}
 use Rattle.rv_judge.specs.declared.events.Control.TheVariants.{Building, ForegroundAlone, BackgroundAlone, FinalList, FinalTable, Done}
@@ -14,17 +14,15 @@ use Rattle.rv_judge.specs.declared.events.Strategy.TheVariants.{BackgroundOnly}
 use Rattle.rv_judge.specs.declared.judging.Facts.{Facts}
 use Rattle.rv_judge.specs.declared.judging.Verdict.{Verdict}
 use Rattle.rv_judge.specs.declared.judging.Verdict.TheVariants.{Continue, AbandonScan, AbandonForeground, AbandonBackground}
-use Rattle.rv_judge.specs.Counting.{leaf_read, page_read, record_read}
+use Rattle.rv_judge.specs.Counting.{leaf_read}
 use Rattle.rv_judge.specs.Course.{next_control}
 use Rattle.rv_judge.specs.Tracing.{CountsRise, counted}
 use Rattle.rv_judge.specs.Verdicts.{Ruling}
 use Rattle.rv_restrict.specs.declared.atom.Atom.{Atom}
 use Rattle.rv_reader.specs.Shown.{Shown}
-use Rattle.rv_scan.specs.Places.{PageReads}
-use Rattle.rv_scan.specs.Reads.{OneAtMost}
 use Rattle.rv_scan.specs.declared.skip.Scanned.{Scanned}
 use Rattle.rv_scan.specs.declared.skip.Scanned.TheVariants.{Found, Working, End}
-use Rattle.rv_final.specs.Stage.{FetchesKey, first_key}
+use Rattle.rv_final.specs.Stage.{first_key}
 use Rattle.rv_reader.specs.declared.reader.Chunk.{Chunk}
 use Rattle.rv_jscan.specs.declared.jscan.Given.{Given}
 use Rattle.rv_jscan.specs.declared.jscan.Given.TheVariants.{Accepted, Stale}
@@ -47,9 +45,11 @@ use Rattle.skew_judges.specs.Guard.{IsBounded, Keeps, goes_on, share}
 use Rattle.rv_bounded.specs.Calls.{Call, lost_by, lost_of}
 use Rattle.rv_bounded.specs.Calls.Call.{Step, StepLost, Take, TakeLost, Give}
 use Rattle.rv_bounded.specs.Races.{RaceDoesAll, RaceDoesCall, RaceGives, RaceSteps, RaceStepsLost, RaceTakes, RacesReadFewLeaves}
-use Rattle.rv_bounded.proofs.Ahead.{greatest, has_held, held_one, one_held}
-use Rattle.rv_bounded.proofs.Shares.{all_scans, first_scan, share_less, share_within, to_read}
+use Rattle.rv_bounded.proofs.Ahead.{greatest, has_held, held_one, one_held, none_held, held_few, small_share}
+use Rattle.rv_bounded.proofs.Shares.{all_scans, first_scan, share_less, to_read}
 use Rattle.rv_bounded.proofs.RaceAhead.{Runs, advanced_fewer, advanced_runs, other_left, other_same, race_sum, rest_sum, turn_leaves, turn_left, turned_fewer, turned_runs}
+use Rattle.rv_bounded.proofs.Sums.{less_by, le_on, at_most, min_left, share_more, both_less, rise_one, same_one, sum_read, sum_none, sum_lost, sum_more, both_more, great_sum, same_less, zero_most, risen_most, zero_least, add_lost, whole_sum, rise_none, quiet_sum, still_sum}
+use Rattle.rv_bounded.proofs.Reading.{one_record, one_page, page_none, key_none}
 
 -- WHAT HOLDS FROM OPENING ON
 pub record Placed (p planned : ℕ) (r : Raced) : Type 0 where
@@ -101,26 +101,13 @@ all_dropped more false = refl
 
 -- A scan is over.
 
-idle_less : (z q : ℕ) → z ≡ 0 → z ≤ q
-idle_less z q e = omega (arith, e)
-
-less_by : (a b q : ℕ) → a ≡ b → b ≤ q → a ≤ q
-less_by a b q e h = omega (arith, e, h)
-
-le_on : (a b c : ℕ) → a ≤ b → b ≤ c → a ≤ c
-le_on a b c h g = omega (arith, h, g)
-
-left_true : (a b : Bool) → (a && b) ≡ true → a ≡ true
-left_true true b h = refl
-left_true false b h = h
-
 record Overs (p planned q : ℕ) (new : Raced) : Type 0 where
   placed : Placed p planned new
   fewer : race_ahead p planned new ≤ q
 
 going_over : (p planned q : ℕ) (r : Raced) → length r.plans ≡ planned → planned ≤ length r.counts → r.guaranteed ≤ p → racing r.control ≡ true → Runs planned r.running → rest_sum p planned r.counts r.running ≤ q → more r ≡ true → Overs p planned q (going_on r)
 going_over p planned q r plans room less on runs left goes =
-    let next : has_next planned r.running ≡ true = sym (ap (λ (n : ℕ). has_next n r.running) plans) ∙ left_true (has_next (length r.plans) r.running) _ goes in
+    let next : has_next planned r.running ≡ true = sym (ap (λ (n : ℕ). has_next n r.running) plans) ∙ first_so (has_next (length r.plans) r.running) _ goes in
     let same : race_sum p planned r.counts (advanced (is_some r.list) (length r.plans) r.running) ≡ race_sum p planned r.counts (advanced (is_some r.list) planned r.running) = ap (λ (n : ℕ). race_sum p planned r.counts (advanced (is_some r.list) n r.running)) plans in
     record {
       placed = record { plans = plans; room = room; less = less; runs = λ h. subst (λ (n : ℕ). Runs planned (advanced (is_some r.list) n r.running)) (sym plans) (advanced_runs planned (is_some r.list) r.running next runs) };
@@ -130,7 +117,7 @@ going_over p planned q r plans room less on runs left goes =
 gone_over : (p planned q : ℕ) (h : Happening) (r : Raced) → length r.plans ≡ planned → planned ≤ length r.counts → r.guaranteed ≤ p → racing (next_control BackgroundOnly r.control h) ≡ false → Overs p planned q (gone h r)
 gone_over p planned q h r plans room less off = record {
   placed = record { plans = plans; room = room; less = less; runs = λ on. not_racing (racing (next_control BackgroundOnly r.control h)) on off };
-  fewer = idle_less (race_ahead p planned (gone h r)) q (idle_left p planned (gone h r) off);
+  fewer = zero_most (race_ahead p planned (gone h r)) q (idle_left p planned (gone h r) off);
 }
 
 -- The judge rules.
@@ -152,7 +139,7 @@ stopped_over p planned q r plans room less on =
     let off : racing (next_control BackgroundOnly r.control (Ruled AbandonBackground (more r) (is_some r.list))) ≡ false = ap (λ (c : Control). racing (next_control BackgroundOnly c (Ruled AbandonBackground (more r) (is_some r.list)))) (only_racing r.control on) ∙ all_dropped (more r) (is_some r.list) in
     record {
       placed = record { plans = plans; room = room; less = less; runs = λ h. not_racing (racing (next_control BackgroundOnly r.control (Ruled AbandonBackground (more r) (is_some r.list)))) h off };
-      fewer = idle_less (race_ahead p planned (stopped r)) q (idle_left p planned (stopped r) off);
+      fewer = zero_most (race_ahead p planned (stopped r)) q (idle_left p planned (stopped r) off);
     }
 
 passed_over : (p planned q : ℕ) (r : Raced) → length r.plans ≡ planned → planned ≤ length r.counts → r.guaranteed ≤ p → racing r.control ≡ true → Runs planned r.running → race_sum p planned r.counts r.running ≤ q → Overs p planned q (passed_on r)
@@ -204,23 +191,11 @@ rest_less p planned counts w = sums (to_read p w.next (planned - w.next)) (turn_
     sums a b c = omega arith
 
 pub least_less : (r : Raced) (o : Option ℕ) → least_with r o ≤ r.guaranteed
-least_less r None = same_less r.guaranteed
-  where
-    same_less : (n : ℕ) → n ≤ n
-    same_less n = omega arith
-least_less r (Some other) = least r.guaranteed _
-  where
-    least : (a b : ℕ) → min a b ≤ a
-    least a b = omega arith
-
-share_more : (spent share more : ℕ) → spent ≤ 1 + share → share ≤ more → spent ≤ 1 + more
-share_more spent share more s m = omega (arith, s, m)
+least_less r None = at_most r.guaranteed
+least_less r (Some other) = min_left r.guaranteed _
 
 pub below_room : (a b c d : ℕ) → a < b → b ≤ c → c ≤ d → a < d
 below_room a b c d h m n = omega (arith, h, m, n)
-
-same_rest : (a b c : ℕ) → a ≡ b → b ≤ c → a ≤ c
-same_rest a b c e h = omega (arith, e, h)
 
 -- the scan goes on, and the judge rules
 judged_over : (p planned : ℕ) (would : ℕ → Facts → Ruling) (state : ℕ) (piece : Pieced) (old : Raced) (verdict : Verdict) → IsBounded would → Placed p planned old → racing old.control ≡ true → verdict ≡ (would state (facts_of (accepted piece false old))).verdict → Overs p planned (race_sum p planned old.counts old.running) (ruled verdict (accepted piece false old))
@@ -233,7 +208,7 @@ judged_over p planned would state piece old verdict rule w on is =
     let least = le_on (least_with v (scan_of v.running.other)) old.guaranteed p (least_less v (scan_of v.running.other)) w.less in
     accepted_goes p planned piece old runs lt (share_more (counts_at v.counts (turn_scan old)).leaves (share (least_with v (scan_of v.running.other)) (turn_scan old)) (share p (turn_scan old)) keeps.sunk (share_less (least_with v (scan_of v.running.other)) p (turn_scan old) least)) in
     let v_runs : Runs planned v.running = record { turn = runs.turn; other = runs.other; apart = runs.apart; next = runs.next } in
-    let rest = same_rest (rest_sum p planned v.counts v.running) (rest_sum p planned old.counts old.running) (race_sum p planned old.counts old.running) (accepted_rest p planned piece false old runs) (rest_less p planned old.counts old.running) in
+    let rest = less_by (rest_sum p planned v.counts v.running) (rest_sum p planned old.counts old.running) (race_sum p planned old.counts old.running) (accepted_rest p planned piece false old runs) (rest_less p planned old.counts old.running) in
     ruled_over p planned (race_sum p planned old.counts old.running) verdict v w.plans (accepted_room piece false old planned w.room) w.less on v_runs goes rest
 
 -- the scan is complete: of the other one fewer keys count, and as many leaves
@@ -270,7 +245,7 @@ completed_over p planned piece old keys w on =
     let r_runs : Runs planned r.running = record { turn = runs.turn; other = narrowed_runs keys old.running planned old.running.other runs.other; apart = narrowed_apart keys (turn_scan old) old.running.other runs.apart; next = runs.next } in
     let below = other_below old.running.other old.running.next planned (length v.counts) runs.other runs.next room in
     let same : rest_sum p planned r.counts r.running ≡ rest_sum p planned old.counts old.running = ap (λ (n : ℕ). to_read p old.running.next (planned - old.running.next) + n) (recounted_left p keys v.counts old.running.other below) ∙ accepted_rest p planned piece true old runs in
-    ended_over p planned (race_sum p planned old.counts old.running) r w.plans (subst (λ (n : ℕ). planned ≤ n) (sym (recounted_room keys v.counts old.running.other)) room) (least_of _ old.guaranteed p w.less) on r_runs (same_rest (rest_sum p planned r.counts r.running) (rest_sum p planned old.counts old.running) (race_sum p planned old.counts old.running) same (rest_less p planned old.counts old.running))
+    ended_over p planned (race_sum p planned old.counts old.running) r w.plans (subst (λ (n : ℕ). planned ≤ n) (sym (recounted_room keys v.counts old.running.other)) room) (least_of _ old.guaranteed p w.less) on r_runs (less_by (rest_sum p planned r.counts r.running) (rest_sum p planned old.counts old.running) (race_sum p planned old.counts old.running) same (rest_less p planned old.counts old.running))
 
 -- what a call leaves ahead
 record Lowers (p planned : ℕ) (old new : Raced) : Type 0 where
@@ -292,9 +267,6 @@ given_lowers p planned would state after piece old new rule w on obeys = by (hel
 
 same_sum : (now was left had : ℕ) → now ≡ was → left ≤ had → now + left ≤ was + had + 0
 same_sum now was left had e h = omega (arith, e, h)
-
-still_sum : (n a : ℕ) → n + a ≤ n + a + 0
-still_sum n a = omega arith
 
 still_spends : (p planned : ℕ) (old new : Raced) → Placed p planned old → new ≡ old → RaceSpends p planned 0 old new
 still_spends p planned old new w e = subst (RaceSpends p planned 0 old) (sym e) (record { placed = w; fewer = still_sum old.trace.leaves (race_ahead p planned old) })
@@ -318,15 +290,7 @@ counts_room r = by (reads_leaf r)
     by false = refl
 
 is_racing : (r : Raced) → reads_leaf r ≡ true → racing r.control ≡ true
-is_racing r h = left_true (racing r.control) _ h
-
-none_held : (b : Bool) (h : Option Chunk) → (b && not (is_some h)) ≡ true → held_one h ≡ 0
-none_held b None e = refl
-none_held true (Some c) e = absurd (cc)
-none_held false (Some c) e = absurd (cc)
-
-small_share : (p scan planned : ℕ) → scan < planned → p + 2 * planned < greatest → 2 + share p scan ≤ greatest
-small_share p scan planned lt small = let within = share_within p scan in omega (arith, lt, small, within)
+is_racing r h = first_so (racing r.control) _ h
 
 -- the scan whose turn it is holds a leaf, or none
 abbrev lane_held : Option Chunk → Raced → Running
@@ -345,21 +309,15 @@ read_ahead : (p planned : ℕ) (r : Raced) (held : Option Chunk) → p + 2 * pla
 read_ahead p planned r held small w reads has =
     let runs = w.runs (is_racing r reads) in
     let lt = below_room (turn_scan r) r.running.next planned (length r.counts) runs.turn runs.next w.room in
-    let in_plan = below_room (turn_scan r) r.running.next planned planned runs.turn runs.next (same_n planned) in
+    let in_plan = below_room (turn_scan r) r.running.next planned planned runs.turn runs.next (at_most planned) in
     took_sum (race_sum p planned (one_leaf r) (lane_held held r)) (race_sum p planned r.counts r.running) (to_read p r.running.next (planned - r.running.next)) (other_left p r.counts r.running.other) (other_left p (one_leaf r) r.running.other) (share p (turn_scan r)) (counts_at r.counts (turn_scan r)).leaves (counts_at (one_leaf r) (turn_scan r)).leaves (held_one held) (held_one (turn_lane r).held) greatest refl refl (other_same p r.counts (turn_scan r) (leaf_counted (counts_at r.counts (turn_scan r))) r.running.other runs.apart) (leaf_after r lt) (one_held held has) (none_held (racing r.control) (turn_lane r).held reads) (small_share p (turn_scan r) planned in_plan small)
-  where
-    same_n : (n : ℕ) → n ≤ n
-    same_n n = omega arith
 
 lost_ahead : (p planned : ℕ) (r : Raced) (held : Option Chunk) → p + 2 * planned < greatest → Placed p planned r → reads_leaf r ≡ true → race_sum p planned (one_leaf r) (lane_held held r) ≤ race_sum p planned r.counts r.running
 lost_ahead p planned r held small w reads =
     let runs = w.runs (is_racing r reads) in
     let lt = below_room (turn_scan r) r.running.next planned (length r.counts) runs.turn runs.next w.room in
-    let in_plan = below_room (turn_scan r) r.running.next planned planned runs.turn runs.next (same_n planned) in
+    let in_plan = below_room (turn_scan r) r.running.next planned planned runs.turn runs.next (at_most planned) in
     lost_sum (race_sum p planned (one_leaf r) (lane_held held r)) (race_sum p planned r.counts r.running) (to_read p r.running.next (planned - r.running.next)) (other_left p r.counts r.running.other) (other_left p (one_leaf r) r.running.other) (share p (turn_scan r)) (counts_at r.counts (turn_scan r)).leaves (counts_at (one_leaf r) (turn_scan r)).leaves (held_one held) (held_one (turn_lane r).held) greatest refl refl (other_same p r.counts (turn_scan r) (leaf_counted (counts_at r.counts (turn_scan r))) r.running.other runs.apart) (leaf_after r lt) (none_held (racing r.control) (turn_lane r).held reads) (small_share p (turn_scan r) planned in_plan small)
-  where
-    same_n : (n : ℕ) → n ≤ n
-    same_n n = omega arith
 
 -- what a leaf that is taken, or not, leaves: the scan whose turn it is may hold it, and it is counted
 pub record Leafs (old new : Raced) : Type 0 where
@@ -368,9 +326,6 @@ pub record Leafs (old new : Raced) : Type 0 where
   pub counts : new.counts ≡ counts_read old
   pub running : new.running ≡ lane_held (turn_lane new).held old
   pub guaranteed : new.guaranteed ≡ old.guaranteed
-
-same_less : (a b : ℕ) → a ≡ b → a ≤ b
-same_less a b e = omega (arith, e)
 
 pub leafs_placed : (p planned : ℕ) (old new : Raced) → Placed p planned old → Leafs old new → Placed p planned new
 leafs_placed p planned old new w t = record {
@@ -392,10 +347,7 @@ ahead_by : (p planned : ℕ) (old new : Raced) → Leafs old new → (racing old
 ahead_by p planned old new t less = by (racing old.control) refl
   where
     by : (b : Bool) → racing old.control ≡ b → race_ahead p planned new ≤ race_ahead p planned old
-    by true on = both (race_ahead p planned new) (race_ahead p planned old) (race_sum p planned new.counts new.running) (race_sum p planned old.counts old.running) (racing_left p planned new (ap racing t.control ∙ on)) (racing_left p planned old on) (less on)
-      where
-        both : (a b c d : ℕ) → a ≡ c → b ≡ d → c ≤ d → a ≤ b
-        both a b c d e f h = omega (arith, e, f, h)
+    by true on = both_less (race_ahead p planned new) (race_ahead p planned old) (race_sum p planned new.counts new.running) (race_sum p planned old.counts old.running) (racing_left p planned new (ap racing t.control ∙ on)) (racing_left p planned old on) (less on)
     by false off = none (race_ahead p planned new) (race_ahead p planned old) (idle_left p planned new (ap racing t.control ∙ off))
       where
         none : (a b : ℕ) → a ≡ 0 → a ≤ b
@@ -412,7 +364,7 @@ leafs_read p planned old new small w t reads has =
 
 -- a leaf may be read, and may be held
 leafs_lost : (p planned : ℕ) (old new : Raced) → p + 2 * planned < greatest → Placed p planned old → Leafs old new → reads_leaf old ≡ true → race_ahead p planned new ≤ race_ahead p planned old
-leafs_lost p planned old new small w t reads = ahead_by p planned old new t (λ on. same_rest (race_sum p planned new.counts new.running) (race_sum p planned (one_leaf old) (lane_held (turn_lane new).held old)) (race_sum p planned old.counts old.running) (leafs_sum p planned old new t true reads) (lost_ahead p planned old (turn_lane new).held small w reads))
+leafs_lost p planned old new small w t reads = ahead_by p planned old new t (λ on. less_by (race_sum p planned new.counts new.running) (race_sum p planned (one_leaf old) (lane_held (turn_lane new).held old)) (race_sum p planned old.counts old.running) (leafs_sum p planned old new t true reads) (lost_ahead p planned old (turn_lane new).held small w reads))
 
 -- none is read
 leafs_none : (p planned : ℕ) (old new : Raced) → Leafs old new → reads_leaf old ≡ false → (racing old.control ≡ true → new.running ≡ old.running) → race_ahead p planned new ≤ race_ahead p planned old
@@ -420,36 +372,15 @@ leafs_none p planned old new t none same = ahead_by p planned old new t (λ on. 
 
 -- Counts.
 
-rise_one : (now was before behind most : ℕ) → now ≡ min (was + (behind - before)) most → behind ≤ before + 1 → now ≤ was + 1
-rise_one now was before behind most n b = omega (arith, n, b)
-
-rise_none : (now was before behind most : ℕ) → now ≡ min (was + (behind - before)) most → behind ≡ before → now ≤ was
-rise_none now was before behind most n b = omega (arith, n, b)
-
-same_one : (behind before : ℕ) → behind ≡ before → behind ≤ before + 1
-same_one behind before e = omega (arith, e)
-
 piece_one : (r : Raced) (c : Counts) → (piece_read r c).leaves ≤ c.leaves + 1
 piece_one r c = by (reads_leaf r)
   where
-    least : (n most : ℕ) → min n most ≤ n
-    least n most = omega arith
-
     by : (b : Bool) → (if b then leaf_read c else c).leaves ≤ c.leaves + 1
-    by true = least (c.leaves + 1) greatest
+    by true = min_left (c.leaves + 1) greatest
     by false = same_one c.leaves c.leaves refl
 
 piece_none : (r : Raced) (c : Counts) → reads_leaf r ≡ false → piece_read r c ≡ c
 piece_none r c none = ap (λ (b : Bool). if b then leaf_read c else c) none
-
-sum_read : (now was left had : ℕ) → now ≤ was + 1 → left + 1 ≤ had → now + left ≤ was + had + 0
-sum_read now was left had n l = omega (arith, n, l)
-
-sum_none : (now was left had : ℕ) → now ≤ was → left ≤ had → now + left ≤ was + had + 0
-sum_none now was left had n l = omega (arith, n, l)
-
-sum_lost : (now was left had : ℕ) → now ≤ was + 1 → left ≤ had → now + left ≤ was + had + 1
-sum_lost now was left had n l = omega (arith, n, l)
 
 -- what a take leaves
 pub takes_leafs : (old new : Raced) → TakesLeaf old new → Leafs old new
@@ -502,14 +433,6 @@ only_leafs old new t = record {
   guaranteed = ap (λ (x : Raced). x.guaranteed) t.same;
 }
 
-pub one_record : (c d : Counts) → OneAtMost record_read c d → d.leaves ≡ c.leaves
-one_record c d (inl same) = ap (λ (x : Counts). x.leaves) same
-one_record c d (inr read) = ap (λ (x : Counts). x.leaves) read
-
-pub one_page : (c d : Counts) → OneAtMost page_read c d → d.leaves ≡ c.leaves
-one_page c d (inl same) = ap (λ (x : Counts). x.leaves) same
-one_page c d (inr read) = ap (λ (x : Counts). x.leaves) read
-
 may_one : (control : Control) (r : Raced) (c d : Counts) → MayRead control r c d → d.leaves ≤ c.leaves + 1
 may_one Building r c d reads = same_one d.leaves c.leaves (ap (λ (x : Counts). x.leaves) reads)
 may_one ForegroundAlone r c d reads = same_one d.leaves c.leaves (ap (λ (x : Counts). x.leaves) reads)
@@ -523,21 +446,11 @@ may_one Done r c d reads = same_one d.leaves c.leaves (ap (λ (x : Counts). x.le
 held_sum : (new old begin other share spent held had : ℕ) → new ≡ begin + (2 + share - min spent (1 + share + held)) + other → old ≡ begin + (2 + share - min spent (1 + share + had)) + other → had ≤ 1 → new ≤ old + 1
 held_sum new old begin other share spent held had n o h = omega (arith, n, o, h)
 
-held_few : (h : Option Chunk) → held_one h ≤ 1
-held_few None = omega arith
-held_few (Some c) = omega arith
-
-more_sum : (now was left had : ℕ) → now ≤ was → left ≤ had + 1 → now + left ≤ was + had + 1
-more_sum now was left had n l = omega (arith, n, l)
-
-both_more : (a b c d : ℕ) → a ≡ c → b ≡ d → c ≤ d + 1 → a ≤ b + 1
-both_more a b c d e f h = omega (arith, e, f, h)
-
 -- beside the scans no leaf is read
 pub idle_spends : (p planned : ℕ) (old new : Raced) (c d : Counts) → Placed p planned old → Leafs old new → racing old.control ≡ false → CountsRise old.trace new.trace c d → d.leaves ≡ c.leaves → RaceSpends p planned 0 old new
 idle_spends p planned old new c d w leafs off rise none = record {
   placed = leafs_placed p planned old new w leafs;
-  fewer = sum_none new.trace.leaves old.trace.leaves (race_ahead p planned new) (race_ahead p planned old) (rise_none new.trace.leaves old.trace.leaves c.leaves d.leaves greatest rise.leaves none) (idle_less (race_ahead p planned new) (race_ahead p planned old) (idle_left p planned new (ap racing leafs.control ∙ off)));
+  fewer = sum_none new.trace.leaves old.trace.leaves (race_ahead p planned new) (race_ahead p planned old) (rise_none new.trace.leaves old.trace.leaves c.leaves d.leaves greatest rise.leaves none) (zero_most (race_ahead p planned new) (race_ahead p planned old) (idle_left p planned new (ap racing leafs.control ∙ off)));
 }
 
 pub step_lost : (p planned : ℕ) (old new : Raced) → p + 2 * planned < greatest → Placed p planned old → RaceStepsLost old new → RaceSpends p planned 1 old new
@@ -562,7 +475,7 @@ step_lost p planned old new small w lost = record {
         both true on =
             let reads : lost.behind ≡ lost.before = subst (λ (c : Control). MayRead c old lost.before lost.behind) (only_racing old.control on) lost.may_read ∙ piece_none old lost.before r in
             let sum : race_sum p planned (lane_counts false) (lane_held (turn_lane new).held old) ≤ race_sum p planned old.counts old.running + 1 = held_sum (race_sum p planned (lane_counts false) (lane_held (turn_lane new).held old)) (race_sum p planned old.counts old.running) (to_read p old.running.next (planned - old.running.next)) (other_left p old.counts old.running.other) (share p (turn_scan old)) (counts_at old.counts (turn_scan old)).leaves (held_one (turn_lane new).held) (held_one (turn_lane old).held) refl refl (held_few (turn_lane old).held) in
-            more_sum new.trace.leaves old.trace.leaves (race_ahead p planned new) (race_ahead p planned old) (rise_none new.trace.leaves old.trace.leaves lost.before.leaves lost.behind.leaves greatest lost.counts.leaves (ap (λ (c : Counts). c.leaves) reads)) (both_more (race_ahead p planned new) (race_ahead p planned old) (race_sum p planned (lane_counts false) (lane_held (turn_lane new).held old)) (race_sum p planned old.counts old.running) (racing_left p planned new (ap racing leafs.control ∙ on) ∙ leafs_sum p planned old new leafs false r) (racing_left p planned old on) sum)
+            sum_more new.trace.leaves old.trace.leaves (race_ahead p planned new) (race_ahead p planned old) (rise_none new.trace.leaves old.trace.leaves lost.before.leaves lost.behind.leaves greatest lost.counts.leaves (ap (λ (c : Counts). c.leaves) reads)) (both_more (race_ahead p planned new) (race_ahead p planned old) (race_sum p planned (lane_counts false) (lane_held (turn_lane new).held old)) (race_sum p planned old.counts old.running) (racing_left p planned new (ap racing leafs.control ∙ on) ∙ leafs_sum p planned old new leafs false r) (racing_left p planned old on) sum)
         both false off = sum_lost new.trace.leaves old.trace.leaves (race_ahead p planned new) (race_ahead p planned old) now (leafs_none p planned old new leafs r (λ on. not_racing (racing old.control) on off))
 
     by : (b : Bool) → reads_leaf old ≡ b → new.trace.leaves + race_ahead p planned new ≤ old.trace.leaves + race_ahead p planned old + 1
@@ -601,20 +514,8 @@ counted_placed p planned stepped new c d e w = subst (Placed p planned) (sym e) 
 counted_ahead : (p planned : ℕ) (stepped new : Raced) (c d : Counts) → new ≡ record stepped { trace = counted stepped.trace c d } → race_ahead p planned new ≡ race_ahead p planned stepped
 counted_ahead p planned stepped new c d e = ap (race_ahead p planned) e
 
-key_none : (key : Option ℕ) (only : List (List Atom)) (rows : List Record) (c d : Counts) (s : Scanned) → FetchesKey key only rows c d s → d.leaves ≡ c.leaves
-key_none None only rows c d s f = ap (λ (x : Counts). x.leaves) f.1
-key_none (Some key) only rows c d s f = ap (λ (x : Counts). x.leaves) f.0
-
-page_none : (s : Scanned) (c d : Counts) → PageReads s c d → d.leaves ≡ c.leaves
-page_none (Found r) c d reads = ap (λ (x : Counts). x.leaves) reads
-page_none Working c d reads = ap (λ (x : Counts). x.leaves) reads
-page_none End c d reads = ap (λ (x : Counts). x.leaves) reads
-
 piece_sum : (now was left stepped taken had : ℕ) → now ≤ was + 1 → left ≡ stepped → stepped ≤ taken → taken + 1 ≤ had → now + left ≤ was + had + 0
 piece_sum now was left stepped taken had n e s t = omega (arith, n, e, s, t)
-
-quiet_sum : (now was left stepped had : ℕ) → now ≤ was → left ≡ stepped → stepped ≤ had → now + left ≤ was + had + 0
-quiet_sum now was left stepped had n e s = omega (arith, n, e, s)
 
 does_spends : (p planned : ℕ) (would : ℕ → Facts → Ruling) (state after : ℕ) (shown : Shown) (c d : Counts) (s : Scanned) (control : Control) (old stepped new : Raced) → p + 2 * planned < greatest → IsBounded would → Placed p planned old → old.control ≡ control → DoesAs control would state after shown c d s old stepped → CountsRise old.trace new.trace c d → new ≡ record stepped { trace = counted stepped.trace c d } → RaceSpends p planned 0 old new
 does_spends p planned would state after shown c d s Building old stepped new small rule w is does rise e = absurd does
@@ -643,13 +544,13 @@ does_spends p planned would state after shown c d s FinalList old stepped new sm
     let stage = stage_lowers p planned s old (record old { at = stepped.at }) stepped w (ap racing is) refl refl refl refl (ap (λ (x : Control). racing (next_control BackgroundOnly x FinalEnded)) is) does.2 in
     record {
       placed = counted_placed p planned stepped new c d e stage.0;
-      fewer = quiet_sum new.trace.leaves old.trace.leaves (race_ahead p planned new) (race_ahead p planned stepped) (race_ahead p planned old) (rise_none new.trace.leaves old.trace.leaves c.leaves d.leaves greatest rise.leaves (key_none (first_key old.list None old.at) old.only (rows_of old shown) c d s does.1)) (counted_ahead p planned stepped new c d e) (idle_less (race_ahead p planned stepped) (race_ahead p planned old) stage.1);
+      fewer = quiet_sum new.trace.leaves old.trace.leaves (race_ahead p planned new) (race_ahead p planned stepped) (race_ahead p planned old) (rise_none new.trace.leaves old.trace.leaves c.leaves d.leaves greatest rise.leaves (key_none (first_key old.list None old.at) old.only (rows_of old shown) c d s does.1)) (counted_ahead p planned stepped new c d e) (zero_most (race_ahead p planned stepped) (race_ahead p planned old) stage.1);
     }
 does_spends p planned would state after shown c d s FinalTable old stepped new small rule w is does rise e =
     let stage = stage_lowers p planned s old (record old { last = stepped.last }) stepped w (ap racing is) refl refl refl refl (ap (λ (x : Control). racing (next_control BackgroundOnly x FinalEnded)) is) does.2 in
     record {
       placed = counted_placed p planned stepped new c d e stage.0;
-      fewer = quiet_sum new.trace.leaves old.trace.leaves (race_ahead p planned new) (race_ahead p planned stepped) (race_ahead p planned old) (rise_none new.trace.leaves old.trace.leaves c.leaves d.leaves greatest rise.leaves (page_none s c d does.1)) (counted_ahead p planned stepped new c d e) (idle_less (race_ahead p planned stepped) (race_ahead p planned old) stage.1);
+      fewer = quiet_sum new.trace.leaves old.trace.leaves (race_ahead p planned new) (race_ahead p planned stepped) (race_ahead p planned old) (rise_none new.trace.leaves old.trace.leaves c.leaves d.leaves greatest rise.leaves (page_none s c d does.1)) (counted_ahead p planned stepped new c d e) (zero_most (race_ahead p planned stepped) (race_ahead p planned old) stage.1);
     }
 does_spends p planned would state after shown c d s Done old stepped new small rule w is does rise e =
     record {
@@ -669,9 +570,6 @@ does_call p planned Take would old new small rule w does = take_spends p planned
 does_call p planned TakeLost would old new small rule w does = take_lost p planned old new small w does
 does_call p planned Give would old new small rule w does = give_spends p planned would old new rule w does
 
-add_lost : (now mid was lost more : ℕ) → mid ≤ was + lost → now ≤ mid + more → now ≤ was + (lost + more)
-add_lost now mid was lost more h g = omega (arith, h, g)
-
 all_spend : (p planned : ℕ) (calls : List Call) (old new : Raced) → p + 2 * planned < greatest → Placed p planned old → RaceDoesAll calls old new → RaceSpends p planned (lost_by calls) old new
 all_spend p planned [] old new small w does = still_spends p planned old new w does
 all_spend p planned (call ∷ calls) old new small w does =
@@ -684,18 +582,12 @@ all_spend p planned (call ∷ calls) old new small w does =
 
 -- A count stays at the greatest number.
 
-risen_most : (now risen most : ℕ) → now ≡ min risen most → now ≤ most
-risen_most now risen most e = omega (arith, e)
-
-same_most : (now was most : ℕ) → now ≡ was → was ≤ most → now ≤ most
-same_most now was most e h = omega (arith, e, h)
-
 call_counted : (call : Call) (would : ℕ → Facts → Ruling) (old new : Raced) → RaceDoesCall call would old new → old.trace.leaves ≤ greatest → new.trace.leaves ≤ greatest
 call_counted Step would old new does most = risen_most new.trace.leaves (old.trace.leaves + (does.behind.leaves - does.before.leaves)) greatest does.counts.leaves
 call_counted StepLost would old new does most = risen_most new.trace.leaves (old.trace.leaves + (does.behind.leaves - does.before.leaves)) greatest does.counts.leaves
 call_counted Take would old new does most = risen_most new.trace.leaves (old.trace.leaves + (does.1.behind.leaves - does.1.before.leaves)) greatest does.1.counts.leaves
 call_counted TakeLost would old new does most = risen_most new.trace.leaves (old.trace.leaves + (does.behind.leaves - does.before.leaves)) greatest does.counts.leaves
-call_counted Give would old new does most = same_most new.trace.leaves old.trace.leaves greatest does.counts.leaves most
+call_counted Give would old new does most = less_by new.trace.leaves old.trace.leaves greatest does.counts.leaves most
 
 all_counted : (calls : List Call) (old new : Raced) → RaceDoesAll calls old new → old.trace.leaves ≤ greatest → new.trace.leaves ≤ greatest
 all_counted [] old new does most = subst (λ (x : Raced). x.trace.leaves ≤ greatest) (sym does) most
@@ -709,11 +601,8 @@ less_two a b h e = omega (arith, h, e)
 not_zero : (a b : ℕ) → a ≡ 1 → b ≡ 0 → ¬ (a ≡ b)
 not_zero a b e f g = absurd (omega (arith, e, f, g))
 
-less_least : (n : ℕ) → 0 ≤ n
-less_least n = omega arith
-
 first_runs : (planned : ℕ) → 2 ≤ planned → Runs planned first_two
-first_runs planned two = record { turn = less_two 0 2 (less_least 1) refl; other = less_two 1 2 (same_less 1 1 refl) refl; apart = not_zero 1 0 refl refl; next = two }
+first_runs planned two = record { turn = less_two 0 2 (zero_least 1) refl; other = less_two 1 2 (same_less 1 1 refl) refl; apart = not_zero 1 0 refl refl; next = two }
 
 first_sum : (a b c d rest all most : ℕ) → all ≡ 2 + a + (2 + b + rest) → all ≤ most → rest + (2 + a - c) + (2 + b - d) ≤ most
 first_sum a b c d rest all most e h = omega (arith, e, h)
@@ -733,21 +622,6 @@ opened_ahead p planned two =
 
     from_first : (n : ℕ) → n ≡ n - 0
     from_first n = omega arith
-
-whole_sum : (now left was had most lost : ℕ) → now + left ≤ was + had + lost → was ≡ 0 → had ≤ most → now ≤ most + lost
-whole_sum now left was had most lost h z m = omega (arith, h, z, m)
-
-great_sum : (now most bound lost : ℕ) → now ≤ most → most ≤ bound → now ≤ bound + lost
-great_sum now most bound lost h m = omega (arith, h, m)
-
-is_less : (a b : ℕ) → nat_lt a b ≡ true → a < b
-is_less a b test = grind (arith, nat_tests)
-
-is_more : (a b : ℕ) → nat_lt a b ≡ false → b ≤ a
-is_more a b test = grind (arith, nat_tests)
-
-zero_most : (n most : ℕ) → n ≡ 0 → n ≤ most
-zero_most n most e = omega (arith, e)
 
 pub opened_placed : (table snap : ℕ) (only : List (List Atom)) (scans : List ScanPlan) (cursor opening pages : ℕ) (r : Raced) → 2 ≤ length scans → length scans ≤ 8 → Opened table snap only scans cursor opening pages r → Placed pages (length scans) r
 opened_placed table snap only scans cursor opening pages r two few is = subst (Placed pages (length scans)) (sym is.is) (record { plans = refl; room = few; less = same_less pages pages refl; runs = λ on. first_runs (length scans) two })
@@ -772,6 +646,6 @@ races_few table snap only scans cursor opening pages calls opened now two few is
 
     by : (b : Bool) → nat_lt (pages + 2 * planned) greatest ≡ b → now.trace.leaves ≤ pages + 2 * planned + lost_by calls
     by true test =
-        let spent = all_spend pages planned calls opened now (is_less (pages + 2 * planned) greatest test) placed does in
+        let spent = all_spend pages planned calls opened now (ltb-true (pages + 2 * planned) greatest test) placed does in
         whole_sum now.trace.leaves (race_ahead pages planned now) opened.trace.leaves (race_ahead pages planned opened) (pages + 2 * planned) (lost_by calls) spent.fewer none ahead
-    by false test = great_sum now.trace.leaves greatest (pages + 2 * planned) (lost_by calls) (all_counted calls opened now does (zero_most opened.trace.leaves greatest none)) (is_more (pages + 2 * planned) greatest test)
+    by false test = great_sum now.trace.leaves greatest (pages + 2 * planned) (lost_by calls) (all_counted calls opened now does (zero_most opened.trace.leaves greatest none)) (ltb-false (pages + 2 * planned) greatest test)

@@ -19,7 +19,8 @@ use Rattle.rv_race.specs.Rulings.{accepted, kept_of, narrowed_by, recounted_by}
 use Rattle.rv_race.specs.Ways.{advanced, begun, first_two, followed, followed_by, joined, turned, turned_to}
 use Rattle.rv_bounded.proofs.Ahead.{greatest}
 use Rattle.rv_bounded.proofs.RaceAhead.{Runs}
-use Rattle.rv_bounded.proofs.Sound.{IsShort, built_sum, eight_none, kept_most, kept_sum, list_sum, none_kept}
+use Rattle.rv_bounded.proofs.Sound.{IsShort, built_sum, eight_none, kept_sum, none_kept}
+use Rattle.rv_bounded.proofs.Sums.{at_most, le_on, risen_most, list_sum}
 
 -- the keys that a scan has kept, and the entries that it has scanned
 abbrev pub kept_at : List ScanCounts → ℕ → ℕ
@@ -78,15 +79,12 @@ turned_by p counts w (Some o) e s = record {
 pub turned_sound : (p : ℕ) (counts : List ScanCounts) (w : Running) → RunsSound p counts w → RunsSound p counts (turned w)
 turned_sound p counts w s = turned_by p counts w w.other refl s
 
-same_number : (n : ℕ) → n ≤ n
-same_number n = omega arith
-
 from_next : (next i : ℕ) → next + 1 ≤ i → next ≤ i
 from_next next i h = omega (arith, h)
 
 followed_to : (p : ℕ) (counts : List ScanCounts) (w : Running) (o : Option Runner) → w.other ≡ o → RestSound p counts w → RunsSound p counts (followed_by o w)
 followed_to p counts w None e s = record {
-  turn = begun_sound p counts w.next (s.fresh w.next (same_number w.next));
+  turn = begun_sound p counts w.next (s.fresh w.next (at_most w.next));
   rest = record { fresh = λ i from. s.fresh i (from_next w.next i from); other = tt };
 }
 followed_to p counts w (Some o) e s = record {
@@ -97,7 +95,7 @@ followed_to p counts w (Some o) e s = record {
 joined_sound : (p : ℕ) (counts : List ScanCounts) (w : Running) → RunsSound p counts w → RunsSound p counts (joined w)
 joined_sound p counts w s = record {
   turn = s.turn;
-  rest = record { fresh = λ i from. s.rest.fresh i (from_next w.next i from); other = begun_sound p counts w.next (s.rest.fresh w.next (same_number w.next)) };
+  rest = record { fresh = λ i from. s.rest.fresh i (from_next w.next i from); other = begun_sound p counts w.next (s.rest.fresh w.next (at_most w.next)) };
 }
 
 pub advanced_sound : (p planned : ℕ) (counts : List ScanCounts) (listed : Bool) (w : Running) → RestSound p counts w → RunsSound p counts (advanced listed planned w)
@@ -183,7 +181,7 @@ turn_scanned p piece r lt s =
     kept_sum (kept_at (accepted piece false r).counts (turn_scan r)) (kept_at r.counts (turn_scan r)) (length (kept_of r piece)) (scanned_at (accepted piece false r).counts (turn_scan r)) (scanned_at r.counts (turn_scan r)) (length piece.entries) greatest (turn_kept piece r lt) (ap (λ (c : ScanCounts). c.scanned) (turn_told piece false r lt)) s.scanned (kept_few (may r.list) piece)
 
 pub turn_capped : (piece : Pieced) (r : Raced) → turn_scan r < length r.counts → kept_at (accepted piece false r).counts (turn_scan r) ≤ greatest
-turn_capped piece r lt = kept_most (kept_at (accepted piece false r).counts (turn_scan r)) (kept_at r.counts (turn_scan r) + length (kept_of r piece)) greatest (turn_kept piece r lt)
+turn_capped piece r lt = risen_most (kept_at (accepted piece false r).counts (turn_scan r)) (kept_at r.counts (turn_scan r) + length (kept_of r piece)) greatest (turn_kept piece r lt)
 
 -- its scan goes on with fewer keys than the table has pages
 pub goes_sound : (p planned : ℕ) (piece : Pieced) (r : Raced) → Runs planned r.running → turn_scan r < length r.counts → p ≤ greatest → kept_at (accepted piece false r).counts (turn_scan r) < p → RunsSound p r.counts r.running → RunsSound p (accepted piece false r).counts (accepted piece false r).running
@@ -215,9 +213,6 @@ list_sound p piece r keys short perm few =
 
 -- and of the other one fewer keys count
 
-fewer_on : (a b c : ℕ) → a ≤ b → b ≤ c → a ≤ c
-fewer_on a b c h g = omega (arith, h, g)
-
 narrowed_other : (p : ℕ) (keys : List ℕ) (counts : List ScanCounts) (o : Option Runner) → IfSome o (λ x. x.scan < length counts) → IfSome o (RunnerSound p counts) → IfSome (narrowed_by keys o) (RunnerSound p (recounted_by (narrowed_by keys o) counts))
 narrowed_other p keys counts None lt s = tt
 narrowed_other p keys counts (Some x) lt s =
@@ -225,12 +220,12 @@ narrowed_other p keys counts (Some x) lt s =
     let c = record (counts_at counts x.scan) { kept = length building } in
     let told : counts_at (slice_set counts x.scan c) x.scan ≡ c = get_or-set_same counts x.scan c no_counts lt in
     let less : length building ≤ length x.lane.building = filter_length (λ k. may_key k keys) x.lane.building in
-    let kept : length building ≤ kept_at counts x.scan = fewer_on (length building) (length x.lane.building) (kept_at counts x.scan) less s.built in
+    let kept : length building ≤ kept_at counts x.scan = le_on (length building) (length x.lane.building) (kept_at counts x.scan) less s.built in
     record {
-      scanned = subst (λ (k : ScanCounts). k.kept ≤ k.scanned) (sym told) (fewer_on (length building) (kept_at counts x.scan) (scanned_at counts x.scan) kept s.scanned);
-      capped = subst (λ (k : ScanCounts). k.kept ≤ greatest) (sym told) (fewer_on (length building) (kept_at counts x.scan) greatest kept s.capped);
-      built = subst (λ (k : ScanCounts). length building ≤ k.kept) (sym told) (same_number (length building));
-      few = fewer_on (length building) (length x.lane.building) p less s.few;
+      scanned = subst (λ (k : ScanCounts). k.kept ≤ k.scanned) (sym told) (le_on (length building) (kept_at counts x.scan) (scanned_at counts x.scan) kept s.scanned);
+      capped = subst (λ (k : ScanCounts). k.kept ≤ greatest) (sym told) (le_on (length building) (kept_at counts x.scan) greatest kept s.capped);
+      built = subst (λ (k : ScanCounts). length building ≤ k.kept) (sym told) (at_most (length building));
+      few = le_on (length building) (length x.lane.building) p less s.few;
       short = s.short;
     }
 

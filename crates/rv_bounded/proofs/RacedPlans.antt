@@ -1,5 +1,5 @@
 -- The reads of a plan over one FROM item whose indexes race, from its opening on.
-use Rattle.std.proofs.Common.{◌≡◌, ℕ, ◌+◌, ◌*◌, ◌≤◌, List, [], ◌∷◌, length, Bool, true, false, not, ◌&&◌, Option, Some, None, is_some, Box, inl, inr, refl, ap, sym, ◌∙◌, subst, arith}
+use Rattle.std.proofs.Common.{◌≡◌, ℕ, ◌+◌, ◌*◌, ◌≤◌, List, [], ◌∷◌, length, Bool, true, false, not, ◌&&◌, Option, Some, None, is_some, Box, inl, inr, refl, ap, sym, ◌∙◌, subst}
 use Rattle.std.specs.Prelude.{if◌then◌else◌}
 use Rattle.std.specs.declared.alloc.Global.{Global}
 use Rattle.rv_judge.specs.declared.counting.Counts.{Counts}
@@ -41,8 +41,9 @@ use Rattle.rv_bounded.specs.OtherPlans.{RacedPlansAreBounded, raced_pages}
 use Rattle.rv_bounded.specs.Plans.{PlanBegins, lost_leaf}
 use Rattle.rv_bounded.specs.RaceReads.{RaceAllOver, RaceOver}
 use Rattle.rv_bounded.specs.Races.{RaceDoesAll, RaceDoesCall}
-use Rattle.rv_bounded.proofs.OnePlan.{DoesHere, Kept, KeepsOn, all_kept, less_lost, more_lost, none_lost, told_here}
+use Rattle.rv_bounded.proofs.OnePlan.{DoesHere, Kept, KeepsOn, all_kept, less_lost, more_lost, told_here}
 use Rattle.rv_bounded.proofs.RaceCosts.{races_bounded}
+use Rattle.rv_bounded.proofs.Sums.{zero_least, there_sum}
 
 -- A CALL OF THE PLAN IS ONE OF ITS RACE, over a table of so many pages
 
@@ -82,7 +83,7 @@ taken_call lost would shown c d r s rule leaf reads fits rise within = by (race_
     same = ap (λ (q : RacedQuery). q.query) leaf.same
 
     found : ((taken : Taken) × TakesPiece s.value.race taken) → Called shown lost r (Racing s)
-    found (taken, answers) = record { box = s; is = refl; same = same; call = Take; would = would; bounded = rule; does = (taken, record { before = c; behind = d; leaves = leaf.leaves; reads = reads; answers = answers; counts = rise }); over = (shown, fits); within = none_lost lost }
+    found (taken, answers) = record { box = s; is = refl; same = same; call = Take; would = would; bounded = rule; does = (taken, record { before = c; behind = d; leaves = leaf.leaves; reads = reads; answers = answers; counts = rise }); over = (shown, fits); within = zero_least lost }
 
     by : (o : Option PieceId) (h : Option Chunk) → race_awaited s.value.race ≡ o → (turn_lane s.value.race).held ≡ h → (if is_some o && not (is_some h) then 1 else 0) ≤ lost → Called shown lost r (Racing s)
     by None h awaits held within = found (Nothing, none_awaited s.value.race awaits)
@@ -101,7 +102,7 @@ call_of lost would shown r (Racing s) rule was fits (inl (None, steps, within)) 
     let only = (steps.calls.wants refl).2 in
     record { box = s; is = refl; same = ap (λ (q : RacedQuery). q.query) only.same; call = StepLost; would = would; bounded = rule; does = record { before = steps.before; behind = steps.behind; only = only.only; may_read = steps.calls.may_read; counts = steps.counts }; over = (shown, fits.race); within = within }
 call_of lost would shown r (Racing s) rule was fits (inr (inl (takes, within))) = taken_call lost would shown takes.before takes.behind r.value s rule takes.leaf takes.reads fits.race takes.counts within
-call_of lost would shown r (Racing s) rule was fits (inr (inr gives)) = record { box = s; is = refl; same = ap (λ (q : RacedQuery). q.query) gives.obeys.same; call = Give; would = would; bounded = rule; does = record { state = gives.state; after = gives.after; piece = gives.piece; given = Accepted; answers = gives.awaits; obeys = gives.obeys.gives; counts = gives.counts }; over = tt; within = none_lost lost }
+call_of lost would shown r (Racing s) rule was fits (inr (inr gives)) = record { box = s; is = refl; same = ap (λ (q : RacedQuery). q.query) gives.obeys.same; call = Give; would = would; bounded = rule; does = record { state = gives.state; after = gives.after; piece = gives.piece; given = Accepted; answers = gives.awaits; obeys = gives.obeys.gives; counts = gives.counts }; over = tt; within = zero_least lost }
 call_of lost would shown r (Competing v) rule was fits (inl (Some fg, steps, within)) = absurd steps.calls.does
 call_of lost would shown r (Competing v) rule was fits (inl (None, steps, within)) = absurd ((steps.calls.wants refl).2)
 call_of lost would shown r (Competing v) rule was fits (inr (inl (takes, within))) = absurd takes.leaf
@@ -178,12 +179,9 @@ begins_race shown opened r begins = begun opened.asked.race shown opened.asked.c
 told_as : (shown : Shown) (p : Planned) (r : Box RacedQuery Global) → PlanFits shown p → IsAlone p → p.stack.at.here ≡ Racing r → reads_told (plan_trace p) ≡ reads_told r.value.race.trace
 told_as shown p r fits one here = told_here shown p fits one ∙ ap (λ (a : Access). reads_told (trace_of a)) here
 
-there_sum : (now a most calls lost : ℕ) → now ≡ a → a ≤ most + calls → calls ≤ lost → now ≤ most + lost
-there_sum now a most calls lost n h l = omega (arith, n, h, l)
-
 pub raced_plans_bounded : RacedPlansAreBounded
 raced_plans_bounded shown calls lost opened now r begins few made =
-    let there : Kept (Reached shown r.value) shown lost now = all_kept (Reached shown r.value) shown calls lost opened now (reached_on shown r.value) (record { fits = begins.fits; one = begins.one }) (λ n. record { box = r; is = begins.here; same = refl; calls = []; made = refl; over = tt; within = none_lost n }) made in
+    let there : Kept (Reached shown r.value) shown lost now = all_kept (Reached shown r.value) shown calls lost opened now (reached_on shown r.value) (record { fits = begins.fits; one = begins.one }) (λ n. record { box = r; is = begins.here; same = refl; calls = []; made = refl; over = tt; within = zero_least n }) made in
     let at = there.holds in
     let first = begins_race shown opened r begins in
     let law = races_bounded r.value.query.table r.value.query.snap r.value.query.only r.value.race.plans opened.asked.cursor 1 (raced_pages shown r.value) at.calls r.value.race at.box.value.race first.two first.few few first.opened at.made at.over in

@@ -1,7 +1,8 @@
 -- The leaves that calls read: a piece that is taken, a foreground step, and those for which no memory is found.
-use Rattle.std.proofs.Common.{◌≡◌, ◌⊎◌, ℕ, ◌+◌, ◌-◌, ◌*◌, ◌<◌, ◌≤◌, ◌==◌, length, min, Bool, true, false, not, ◌&&◌, Option, Some, None, is_some, inl, inr, refl, ap, sym, ◌∙◌, subst, arith}
+use Rattle.std.proofs.Common.{◌≡◌, ◌⊎◌, ℕ, ◌+◌, ◌-◌, ◌*◌, ◌<◌, ◌≤◌, ◌==◌, List, length, min, Bool, true, false, not, ◌&&◌, Option, Some, None, is_some, inl, inr, refl, ap, sym, ◌∙◌, subst, arith}
 use Rattle.std.specs.Prelude.{if◌then◌else◌}
 use Rattle.rv_value.proofs.Tests.{no_other}
+use Rattle.rv_value.specs.declared.record.Record.{Record}
 use Rattle.rv_judge.specs.declared.counting.Counts.{Counts}
 use Rattle.rv_judge.specs.declared.events.Control.{Control}
 use Rattle.rv_judge.specs.declared.events.Control.TheVariants.{Building, ForegroundAlone, BackgroundAlone, FinalList, FinalTable, Done}
@@ -13,6 +14,7 @@ use Rattle.rv_judge.specs.declared.judging.Facts.{Facts}
 use Rattle.rv_judge.specs.Counting.{leaf_read, page_read, record_read}
 use Rattle.rv_judge.specs.Tracing.{counted, noted}
 use Rattle.rv_judge.specs.Verdicts.{Ruling}
+use Rattle.rv_restrict.specs.declared.atom.Atom.{Atom}
 use Rattle.rv_reader.specs.Shown.{Shown}
 use Rattle.rv_scan.specs.Places.{PageReads}
 use Rattle.rv_scan.specs.Reads.{OneAtMost}
@@ -22,6 +24,7 @@ use Rattle.rv_jscan.specs.declared.jscan.Taken.{Taken}
 use Rattle.rv_jscan.specs.declared.jscan.Taken.TheVariants.{Piece, Nothing}
 use Rattle.rv_jscan.specs.Joint.{Joint, under_way}
 use Rattle.rv_jscan.specs.Steps.{TakeLeaves, next_id, reads_leaf}
+use Rattle.rv_final.specs.Stage.{FetchesKey}
 use Rattle.rv_retrieval.specs.Accounts.{fresh_of}
 use Rattle.rv_retrieval.specs.Given.{TakesLeaf, TakesLeafBy, TakesPiece, awaited}
 use Rattle.rv_retrieval.specs.Shape.{Shape, is_background}
@@ -32,23 +35,12 @@ use Rattle.rv_bounded.specs.Calls.{Steps, StepsLost, Takes}
 use Rattle.rv_bounded.proofs.Ahead.{ahead, counts_long, greatest, has_held, is_under_way, lost_ahead, read_ahead}
 use Rattle.rv_bounded.proofs.Controls.{goes_apart, goes_behind, is_apart, is_behind}
 use Rattle.rv_bounded.proofs.Spending.{Spends, Stays, Within, given_spends, stays_on, stays_still, within_on}
+use Rattle.rv_bounded.proofs.Sums.{rise_one, same_one, min_left, sum_read, sum_none, sum_lost, none_more, same_less, rise_none}
 
 -- Counts.
 
-rise_one : (now was before behind most : ℕ) → now ≡ min (was + (behind - before)) most → behind ≤ before + 1 → now ≤ was + 1
-rise_one now was before behind most n b = omega (arith, n, b)
-
-pub rise_none : (now was before behind most : ℕ) → now ≡ min (was + (behind - before)) most → behind ≡ before → now ≤ was
-rise_none now was before behind most n b = omega (arith, n, b)
-
-same_one : (behind before : ℕ) → behind ≡ before → behind ≤ before + 1
-same_one behind before e = omega (arith, e)
-
 leaf_one : (c : Counts) → (leaf_read c).leaves ≤ c.leaves + 1
-leaf_one c = least (c.leaves + 1) greatest
-  where
-    least : (n most : ℕ) → min n most ≤ n
-    least n most = omega arith
+leaf_one c = min_left (c.leaves + 1) greatest
 
 -- what a piece reads
 
@@ -105,19 +97,6 @@ small_joint : (p planned : ℕ) (v : Shape) → Within p planned v → p + 2 * p
 small_joint p planned v w small = subst (λ (n : ℕ). p + 2 * n < greatest) (sym w.plans) small
 
 -- A PIECE IS TAKEN.
-
--- the leaves read and those ahead, of two sums
-sum_read : (now was left had : ℕ) → now ≤ was + 1 → left + 1 ≤ had → now + left ≤ was + had + 0
-sum_read now was left had n l = omega (arith, n, l)
-
-sum_none : (now was left had : ℕ) → now ≤ was → left ≤ had → now + left ≤ was + had + 0
-sum_none now was left had n l = omega (arith, n, l)
-
-sum_lost : (now was left had : ℕ) → now ≤ was + 1 → left ≤ had → now + left ≤ was + had + 1
-sum_lost now was left had n l = omega (arith, n, l)
-
-same_less : (a b : ℕ) → a ≡ b → a ≤ b
-same_less a b e = omega (arith, e)
 
 takes_stays : (old new : Shape) → new ≡ record old { joint = new.joint; trace = new.trace } → TakesLeaf old new.joint → Stays old new
 takes_stays old new same leaves = aside_stays old new (ap (λ (x : Shape). x.strategy) same) (ap (λ (x : Shape). x.control) same) (leaf_plans (is_background old.control) old.joint new.joint leaves) (leaf_counts (is_background old.control) old.joint new.joint leaves) (ap (λ (x : Shape). x.guaranteed) same) (ap (λ (x : Shape). x.query) same)
@@ -253,7 +232,7 @@ final_quiet old v stepped s stays joint leaves e = subst (Quiet old) (sym e) (by
       leaves = leaves;
     }
 
-page_none : (s : Scanned) (c d : Counts) → PageReads s c d → d.leaves ≡ c.leaves
+pub page_none : (s : Scanned) (c d : Counts) → PageReads s c d → d.leaves ≡ c.leaves
 page_none (Found r) c d reads = ap (λ (x : Counts). x.leaves) reads
 page_none Working c d reads = ap (λ (x : Counts). x.leaves) reads
 page_none End c d reads = ap (λ (x : Counts). x.leaves) reads
@@ -261,9 +240,6 @@ page_none End c d reads = ap (λ (x : Counts). x.leaves) reads
 -- a piece was taken and given
 piece_sum : (now stepped was left taken had read : ℕ) → now ≤ stepped + read → stepped + left ≤ was + taken + 0 → taken + read ≤ had → now + left ≤ was + had + 0
 piece_sum now stepped was left taken had read n s t = omega (arith, n, s, t)
-
-none_more : (a b : ℕ) → a ≤ b → a ≤ b + 0
-none_more a b h = omega (arith, h)
 
 none_less : (a b : ℕ) → a ≡ b → a + 0 ≤ b
 none_less a b e = omega (arith, e)
@@ -357,3 +333,7 @@ pub step_spends : (p planned : ℕ) (would : ℕ → Facts → Ruling) (shown : 
 step_spends p planned would shown old new small rule w steps =
     let does = steps.does in
     does_spends p planned would steps.state steps.after shown steps.before steps.behind does.scanned old.control old does.stepped new small rule w w.behind does.does does.reads does.counts
+
+pub key_none : (key : Option ℕ) (only : List (List Atom)) (rows : List Record) (c d : Counts) (s : Scanned) → FetchesKey key only rows c d s → d.leaves ≡ c.leaves
+key_none None only rows c d s f = ap (λ (x : Counts). x.leaves) f.1
+key_none (Some key) only rows c d s f = ap (λ (x : Counts). x.leaves) f.0

@@ -21,9 +21,10 @@ use Rattle.skew_judges.specs.Guard.{IsBounded}
 use Rattle.rv_bounded.specs.Bounds.{SearchesAreBounded}
 use Rattle.rv_bounded.specs.Calls.{Steps}
 use Rattle.rv_bounded.proofs.Ahead.{ahead, greatest}
-use Rattle.rv_bounded.proofs.Costs.{Whole, others, rest_back, rest_of, still_sum, whole_on}
-use Rattle.rv_bounded.proofs.WholeLaws.{Alone, none_risen, opened_ahead, opened_back, opened_whole, small_all}
+use Rattle.rv_bounded.proofs.Costs.{Whole, others, rest_back, rest_of, whole_on}
+use Rattle.rv_bounded.proofs.WholeLaws.{Alone, opened_ahead, opened_back, opened_whole, small_all}
 use Rattle.rv_bounded.proofs.StepCosts.{step_costs, step_rise}
+use Rattle.rv_bounded.proofs.Sums.{none_risen, still_sum}
 
 -- the reads with those that may come are no more than at opening, and what was counted is in the trace
 record Gone (query : Query) (p planned : ℕ) (c : Counts) (old : Shape) (new : Searched) : Type 0 where

@@ -1,19 +1,11 @@
 -- What scans may still read by their shares.
 use Rattle.std.proofs.Common.{◌≡◌, ℕ, zero, suc, ◌+◌, ◌-◌, ◌*◌, ◌<◌, ◌≤◌, ap, arith}
-use Rattle.std.proofs.lemmas.Nat.{le-div, pow_pos}
+use Rattle.std.proofs.lemmas.Nat.{le-div}
 use Rattle.std.proofs.Math.Nat.{div-le_self, div-mul-le_self}
 use Rattle.skew_judges.specs.Guard.{parts, share, shares}
-use Rattle.skew_judges.proofs.Guarding.{parts_late}
+use Rattle.skew_judges.proofs.Guarding.{parts_some}
 use Rattle.skew_judges.proofs.Shares.{are_less}
-
-parts_some : (scan : ℕ) → 0 < parts scan
-parts_some zero = omega arith
-parts_some (suc zero) = omega arith
-parts_some (suc (suc zero)) = omega arith
-parts_some (suc (suc (suc n))) =
-    let some = pow_pos (suc (suc (suc n))) in
-    let are = parts_late n in
-    omega (arith, some, are)
+use Rattle.rv_bounded.proofs.Sums.{after}
 
 -- a lower guarantee has no greater shares
 pub share_less : (a b scan : ℕ) → a ≤ b → share a scan ≤ share b scan
@@ -28,9 +20,6 @@ share_within g scan = div-le_self g (parts scan)
 abbrev pub to_read : ℕ → ℕ → ℕ → ℕ
 to_read p scan zero = 0
 to_read p scan (suc n) = 2 + share p scan + to_read p (scan + 1) n
-
-after : (n : ℕ) → n + 1 ≡ suc n
-after n = omega arith
 
 to_shares : (p scan n : ℕ) → shares p scan + to_read p scan n ≡ shares p (scan + n) + 2 * n
 to_shares p scan zero =

@@ -18,6 +18,7 @@ use Rattle.rv_retrieval.specs.Telling.{list_len}
 use Rattle.rv_retrieval.proofs.BackWork.{kept_few}
 use Rattle.skew_judges.specs.Guard.{Keeps, keys_before}
 use Rattle.rv_bounded.proofs.Ahead.{greatest, is_under_way, way_counted}
+use Rattle.rv_bounded.proofs.Sums.{both_less, at_most, risen_most, list_sum}
 
 -- the keys that the present scan has kept, and the entries that it has scanned
 abbrev pub kept_by : Joint → ℕ
@@ -41,9 +42,6 @@ pub record Sound (p : ℕ) (j : Joint) : Type 0 where
 
 other_counts : (counts : List ScanCounts) (ended i : ℕ) (c : ScanCounts) → ended < i → counts_at (slice_set counts ended c) i ≡ counts_at counts i
 other_counts counts ended i c lt = get_or-set_other counts ended i c no_counts (λ e. absurd (omega (arith, lt, e)))
-
-both_less : (a b c d : ℕ) → a ≡ c → b ≡ d → c ≤ d → a ≤ b
-both_less a b c d e f h = omega (arith, e, f, h)
 
 left_less : (a b c : ℕ) → a ≡ c → c ≤ b → a ≤ b
 left_less a b c e h = omega (arith, e, h)
@@ -78,9 +76,6 @@ taken_sound p old new t room short s = by (reads_leaf old) refl
 pub kept_sum : (now was more scanned had entries most : ℕ) → now ≡ min (was + more) most → scanned ≡ min (had + entries) most → was ≤ had → more ≤ entries → now ≤ scanned
 kept_sum now was more scanned had entries most n s h m = omega (arith, n, s, h, m)
 
-pub kept_most : (now sum most : ℕ) → now ≡ min sum most → now ≤ most
-kept_most now sum most n = omega (arith, n)
-
 pub built_sum : (now was more built all p most : ℕ) → now ≡ min (was + more) most → built ≤ was → all ≡ built + more → now < p → p ≤ most → (all ≤ now) × (all ≤ p)
 built_sum now was more built all p most n b a lt small = (omega (arith, n, b, a, lt, small), omega (arith, n, b, a, lt, small))
 
@@ -97,7 +92,7 @@ going_scanned p j entries cut lt s =
     kept_sum (kept_by (going j entries cut)) (kept_by j) (length (kept_of j entries)) (scanned_by (going j entries cut)) (scanned_by j) (length entries) greatest (going_kept j entries cut lt) (ap (λ (c : ScanCounts). c.scanned) (going_counts j entries cut lt)) s.scanned (kept_few j entries)
 
 pub going_capped : (j : Joint) (entries : List IndexEntry) (cut : IndexEntry) → j.ended < length j.counts → kept_by (going j entries cut) ≤ greatest
-going_capped j entries cut lt = kept_most (kept_by (going j entries cut)) (kept_by j + length (kept_of j entries)) greatest (going_kept j entries cut lt)
+going_capped j entries cut lt = risen_most (kept_by (going j entries cut)) (kept_by j + length (kept_of j entries)) greatest (going_kept j entries cut lt)
 
 pub going_fresh : (p : ℕ) (j : Joint) (entries : List IndexEntry) (cut : IndexEntry) → Sound p j → (i : ℕ) → j.ended < i → counts_at (going j entries cut).counts i ≡ no_counts
 going_fresh p j entries cut s i above = other_counts j.counts j.ended i (piece_counted (counts_at j.counts j.ended) (length entries) (length (kept_of j entries)) false) above ∙ s.fresh i above
@@ -122,7 +117,7 @@ none_kept n most e = omega (arith, e)
 -- a scan begins
 begun_sound : (p : ℕ) (j : Joint) → ((i : ℕ) → j.ended ≤ i → counts_at j.counts i ≡ no_counts) → j.building ≡ [] → j.held ≡ None → list_len j.list ≤ p + 48 → Sound p j
 begun_sound p j fresh building held list =
-    let none = fresh j.ended (same_number j.ended) in
+    let none = fresh j.ended (at_most j.ended) in
     let kept : kept_by j ≡ 0 = ap (λ (c : ScanCounts). c.kept) none in
     let built : length j.building ≡ 0 = ap length building in
     record {
@@ -135,9 +130,6 @@ begun_sound p j fresh building held list =
       short = subst (λ (h : Option Chunk). IfSome h IsShort) (sym held) tt;
     }
   where
-    same_number : (n : ℕ) → n ≤ n
-    same_number n = omega arith
-
     less_or_same : (a b : ℕ) → a < b → a ≤ b
     less_or_same a b h = omega (arith, h)
 
@@ -146,9 +138,6 @@ after_below ended i h = omega (arith, h)
 
 pub abandoned_sound : (p : ℕ) (j : Joint) → ((i : ℕ) → j.ended < i → counts_at j.counts i ≡ no_counts) → list_len j.list ≤ p + 48 → Sound p (abandoned j)
 abandoned_sound p j fresh list = begun_sound p (abandoned j) (λ i from. fresh i (after_below j.ended i from)) refl refl list
-
-pub list_sum : (keys all built more entries p : ℕ) → all ≡ keys → all ≡ built + more → built ≤ p → more ≤ entries → entries ≤ 48 → keys ≤ p + 48
-list_sum keys all built more entries p k a b m e = omega (arith, k, a, b, m, e)
 
 -- its scan is complete
 pub completed_sound : (p : ℕ) (j : Joint) (entries : List IndexEntry) (keys : List ℕ) → length entries ≤ 48 → IsPermutation (j.building ++ kept_of j entries) keys → Sound p j → Sound p (completed j entries keys)

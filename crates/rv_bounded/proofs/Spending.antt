@@ -1,5 +1,5 @@
 -- What a piece that is given spends of the leaves ahead, and what it leaves.
-use Rattle.std.proofs.Common.{◌≡◌, ◌⊎◌, ℕ, ◌+◌, ◌≤◌, List, ◌++◌, length, length-set, min, Bool, true, false, Option, Some, None, is_some, nat_eq, inl, inr, refl, ap, sym, ◌∙◌, subst, arith, le_trans, IsPermutation}
+use Rattle.std.proofs.Common.{◌≡◌, ◌⊎◌, ℕ, ◌+◌, ◌≤◌, List, ◌++◌, length, length-set, Bool, true, false, Option, Some, None, is_some, nat_eq, inl, inr, refl, ap, sym, ◌∙◌, subst, arith, le_trans, IsPermutation}
 use Rattle.std.specs.Prelude.{if◌then◌else◌}
 use Rattle.std.proofs.lemmas.Bool.Decides.{nat_tests}
 use Rattle.rv_value.proofs.Tests.{same_number}
@@ -26,6 +26,7 @@ use Rattle.skew_judges.specs.Guard.{IsBounded, Keeps, goes_on, share}
 use Rattle.rv_bounded.proofs.Shares.{share_less}
 use Rattle.rv_bounded.proofs.Ahead.{ahead, going_spent, next_ahead, spent_by, stay_ahead, way_counted}
 use Rattle.rv_bounded.proofs.Controls.{goes_apart, goes_behind, is_apart, is_behind}
+use Rattle.rv_bounded.proofs.Sums.{at_most, more_by, min_right, none_more, share_more}
 
 -- WHAT HOLDS FROM OPENING ON: no foreground scans an index, the planned scans are so many and each has its counts, and no
 -- more is guaranteed than the table's pages
@@ -43,9 +44,6 @@ pub record Stays (old new : Shape) : Type 0 where
   pub less : new.guaranteed ≤ old.guaranteed
   pub asked : new.query ≡ old.query
   pub apart : is_apart old.control ≡ true → is_apart new.control ≡ true
-
-at_most : (n : ℕ) → n ≤ n
-at_most n = omega arith
 
 pub stays_still : (v : Shape) → Stays v v
 stays_still v = record { behind = λ b. b; plans = refl; counts = refl; less = at_most v.guaranteed; asked = refl; apart = λ b. b }
@@ -95,9 +93,6 @@ ruled_stays AbandonScan v = dropped_stays AbandonScan (more_behind v.joint) (mor
 ruled_stays AbandonForeground v = stopped_stays (more_behind v.joint) v
 ruled_stays AbandonBackground v = dropped_stays AbandonBackground (more_behind v.joint) false v
 
-more_by : (t a q : ℕ) → a ≤ q → t + a ≤ t + q
-more_by t a q h = omega (arith, h)
-
 dropped_fewer : (p q : ℕ) (verdict : Verdict) (more next : Bool) (v : Shape) → ahead p (abandoned v.joint) ≤ q → (dropped verdict more next v).trace.leaves + ahead p (dropped verdict more next v).joint ≤ v.trace.leaves + q
 dropped_fewer p q verdict more true v h = more_by v.trace.leaves (ahead p (abandoned v.joint)) q h
 dropped_fewer p q verdict more false v h = more_by v.trace.leaves (ahead p (abandoned v.joint)) q h
@@ -118,15 +113,12 @@ ruled_fewer p q AbandonBackground v on over = dropped_fewer p q AbandonBackgroun
 
 -- The end of a scan.
 
-least_less : (n g : ℕ) → min n g ≤ g
-least_less n g = omega arith
-
 over_stays : (scan : ℕ) (v : Shape) → Stays v (scan_over scan v)
 over_stays scan v = by (under_way v.joint)
   where
     by : (b : Bool) → Stays v (if b then going_on (listed scan v) else gone (ScanEnded b (is_some v.joint.list)) (listed scan v))
-    by true = record { behind = λ b. b; plans = refl; counts = refl; less = least_less _ v.guaranteed; asked = refl; apart = λ b. b }
-    by false = record { behind = λ b. goes_behind v.strategy v.control (ScanEnded false (is_some v.joint.list)) b; plans = refl; counts = refl; less = least_less _ v.guaranteed; asked = refl; apart = λ b. goes_apart v.strategy v.control (ScanEnded false (is_some v.joint.list)) b }
+    by true = record { behind = λ b. b; plans = refl; counts = refl; less = min_right _ v.guaranteed; asked = refl; apart = λ b. b }
+    by false = record { behind = λ b. goes_behind v.strategy v.control (ScanEnded false (is_some v.joint.list)) b; plans = refl; counts = refl; less = min_right _ v.guaranteed; asked = refl; apart = λ b. goes_apart v.strategy v.control (ScanEnded false (is_some v.joint.list)) b }
 
 over_fewer : (p q scan : ℕ) (v : Shape) → ahead p v.joint ≤ q → (scan_over scan v).trace.leaves + ahead p (scan_over scan v).joint ≤ v.trace.leaves + q
 over_fewer p q scan v h = by (under_way v.joint)
@@ -136,12 +128,6 @@ over_fewer p q scan v h = by (under_way v.joint)
     by false = more_by v.trace.leaves (ahead p v.joint) q h
 
 -- A PIECE IS GIVEN.
-
-add_none : (n m : ℕ) → n ≤ m → n ≤ m + 0
-add_none n m h = omega (arith, h)
-
-share_more : (spent share more : ℕ) → spent ≤ 1 + share → share ≤ more → spent ≤ 1 + more
-share_more spent share more s m = omega (arith, s, m)
 
 goes_ahead : (p planned : ℕ) (would : ℕ → Facts → Ruling) (state : ℕ) (old : Shape) (entries : List IndexEntry) (cut : IndexEntry) → IsBounded would → Within p planned old → under_way old.joint ≡ true → goes_on (would state (facts_of (account_of (record old { joint = going old.joint entries cut })) old.joint.ended)).verdict ≡ true → ahead p (going old.joint entries cut) ≤ ahead p old.joint
 goes_ahead p planned would state old entries cut rule w way on =
@@ -165,7 +151,7 @@ going_spends p planned would state old entries cut verdict is rule w way =
     let stays = stays_on old v (ruled verdict v) (set_stays old j refl (length-set old.joint.counts old.joint.ended _)) (ruled_stays verdict v) in
     record {
       stays = stays;
-      fewer = add_none _ _ (ruled_fewer p (ahead p old.joint) verdict v on over);
+      fewer = none_more _ _ (ruled_fewer p (ahead p old.joint) verdict v on over);
     }
 
 completed_spends : (p planned : ℕ) (old : Shape) (entries : List IndexEntry) (keys : List ℕ) → Within p planned old → under_way old.joint ≡ true → Spends p 0 old (scan_over old.joint.ended (record old { joint = completed old.joint entries keys }))
@@ -175,7 +161,7 @@ completed_spends p planned old entries keys w way =
     let stays = stays_on old v (scan_over old.joint.ended v) (set_stays old j refl (length-set old.joint.counts old.joint.ended _)) (over_stays old.joint.ended v) in
     record {
       stays = stays;
-      fewer = add_none _ _ (over_fewer p (ahead p old.joint) old.joint.ended v (next_ahead p old.joint j (way_within old.joint way) refl refl));
+      fewer = none_more _ _ (over_fewer p (ahead p old.joint) old.joint.ended v (next_ahead p old.joint j (way_within old.joint way) refl refl));
     }
 
 other_number : (n : ℕ) → nat_eq (n + 1) n ≡ false

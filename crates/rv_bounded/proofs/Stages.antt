@@ -130,12 +130,6 @@ table_fewer most p keys old new t u c d s now rise reads turns is = by s reads t
 
 -- SUMS
 
-pub still_sum : (now left was had : ℕ) → now ≤ was → left ≤ had → now + left ≤ was + had + 0
-still_sum now left was had n l = omega (arith, n, l)
-
-pub lost_sum : (now left was had : ℕ) → now ≤ was + 1 → left ≤ had → now + left ≤ was + had + 1
-lost_sum now left was had n l = omega (arith, n, l)
-
 pub same_others : (t u : Trace) → SameCounts t u → others_of u ≤ others_of t
 same_others t u s = sums u.pages u.fetches t.pages t.fetches s.pages s.fetches
   where
@@ -144,9 +138,6 @@ same_others t u s = sums u.pages u.fetches t.pages t.fetches s.pages s.fetches
 
 pub sum_to : (now left to was had old : ℕ) → left ≡ to → old ≡ had → now + to ≤ was + had + 0 → now + left ≤ was + old + 0
 sum_to now left to was had old e f h = omega (arith, e, f, h)
-
-pub none_lost : (n a : ℕ) → n + a ≤ n + a + 0
-none_lost n a = omega arith
 
 -- WHAT IS HELD is a leaf, and has at most 48 entries
 pub drawn_short : (plan : ScanPlan) (shown : Shown) (snap : ℕ) (place : Option IndexEntry) (h : Option Chunk) → IfSome h (IsLeafAt plan shown snap place) → IfSome h IsShort

@@ -33,9 +33,10 @@ use Rattle.rv_bounded.specs.Calls.{Steps, StepsLost, Takes}
 use Rattle.rv_bounded.proofs.Ahead.{ahead, counts_long, greatest}
 use Rattle.rv_bounded.proofs.Controls.{is_apart}
 use Rattle.rv_bounded.proofs.Costs.{Costs, Whole, back_sum, given_sound, others, outcome_counts, rest_back, rest_by, rest_few, rest_keys, rest_of}
-use Rattle.rv_bounded.proofs.Reading.{one_page, one_record, rise_none, step_lost, step_spends, take_lost, take_spends}
+use Rattle.rv_bounded.proofs.Reading.{one_page, one_record, step_lost, step_spends, take_lost, take_spends}
 use Rattle.rv_bounded.proofs.Sound.{IsShort, Sound, short_held, taken_sound}
 use Rattle.rv_bounded.proofs.Spending.{Spends, Stays, Within, given_outcome, within_on}
+use Rattle.rv_bounded.proofs.Sums.{record_sum, less_same, at_most, small_pages, rise_none, zero_least}
 
 -- Counts.
 
@@ -85,7 +86,7 @@ leaf_sound : (p : ℕ) (b : Bool) (old new : Joint) → length old.plans ≤ len
 leaf_sound p true old new room short s t = taken_sound p old new t room short s
 leaf_sound p false old new room short s e = subst (Sound p) (sym e) s
 
-leaf_list : (b : Bool) (old new : Joint) → TakesLeafBy b old new → new.list ≡ old.list
+pub leaf_list : (b : Bool) (old new : Joint) → TakesLeafBy b old new → new.list ≡ old.list
 leaf_list true old new t = ap (λ (j : Joint). j.list) t.same
 leaf_list false old new e = ap (λ (j : Joint). j.list) e
 
@@ -138,8 +139,6 @@ lost_sound p planned shown old new w s lost = by lost.only.leaves
     by (inr leaves) = leaf_sound p (is_background old.control) old.joint new.joint w.room (drawn_short new.joint.held new.joint shown lost.fits.joint.drawn) s leaves
 
 -- beside the background no leaf is read or taken, and at most one record or page
-other_fewer : (now left was had : ℕ) → now ≤ was + (0 + 1) → left ≤ had → now + left ≤ was + had + 1
-other_fewer now left was had n l = omega (arith, n, l)
 
 page_fewer : (now left was had : ℕ) → now ≤ was + (1 + 0) → left ≤ had → now + left ≤ was + had + 1
 page_fewer now left was had n l = omega (arith, n, l)
@@ -221,7 +220,7 @@ step_lost_costs p planned query shown old new small w lost = by old.control refl
       other = 1;
       both = refl;
       spends = no_leaf (ap is_background e) (one_record lost.before lost.behind reads);
-      fewer = other_fewer (others new) (rest_of p new) (others old) (rest_of p old) (rise_sum new.trace.pages new.trace.fetches old.trace.pages old.trace.fetches lost.before.pages lost.behind.pages lost.before.records lost.behind.records 0 1 greatest lost.counts.pages lost.counts.fetches (no_more lost.behind.pages lost.before.pages (record_pages lost.before lost.behind reads)) (record_few lost.before lost.behind reads)) rest;
+      fewer = record_sum (others new) (rest_of p new) (others old) (rest_of p old) (rise_sum new.trace.pages new.trace.fetches old.trace.pages old.trace.fetches lost.before.pages lost.behind.pages lost.before.records lost.behind.records 0 1 greatest lost.counts.pages lost.counts.fetches (no_more lost.behind.pages lost.before.pages (record_pages lost.before lost.behind reads)) (record_few lost.before lost.behind reads)) rest;
       sound = sound;
     }
     by FinalTable e reads = record {
@@ -250,10 +249,7 @@ pub record Others (p : ℕ) (old new : Shape) : Type 0 where
 new_joint : (p : ℕ) (stepped new : Shape) (c d : Counts) → new ≡ record stepped { trace = counted stepped.trace c d } → Sound p stepped.joint → Sound p new.joint
 new_joint p stepped new c d e s = subst (λ (x : Shape). Sound p x.joint) (sym e) s
 
-less_on : (a b c : ℕ) → a ≤ b → b ≡ c → a ≤ c
-less_on a b c h e = omega (arith, h, e)
-
-same_others : (old new : Shape) → SameCounts old.trace new.trace → others new ≡ others old
+pub same_others : (old new : Shape) → SameCounts old.trace new.trace → others new ≡ others old
 same_others old new s = both new.trace.pages new.trace.fetches old.trace.pages old.trace.fetches s.pages s.fetches
   where
     both : (a b c d : ℕ) → a ≡ c → b ≡ d → a + b ≡ c + d
@@ -264,7 +260,7 @@ back_others p planned would state after query old stepped new c d small rule w c
   where
     ends : Sound p stepped.joint → others stepped ≡ others old → Others p old new
     ends sound same = record {
-      fewer = back_sum (others new) (rest_of p new) (others old) (rest_of p old) (p + 48) (less_on (others new) (others stepped) (others old) (rise_piece old stepped new c d reads (counted_rise stepped new c d e)) same) (rest_few p new (new_joint p stepped new c d e sound)) (rest_back p old control);
+      fewer = back_sum (others new) (rest_of p new) (others old) (rest_of p old) (p + 48) (less_same (others new) (others stepped) (others old) (rise_piece old stepped new c d reads (counted_rise stepped new c d e)) same) (rest_few p new (new_joint p stepped new c d e sound)) (rest_back p old control);
       sound = new_joint p stepped new c d e sound;
     }
 
@@ -273,13 +269,10 @@ back_others p planned would state after query old stepped new c d small rule w c
         let mid = record old { borrowed = steps.passed; joint = one.taken } in
         let short = short_held one.taken.held one.piece.entries one.awaits.entries one.short in
         let taken = taken_sound p old.joint one.taken one.leaves w.within.room short w.sound in
-        let stays : Stays old mid = record { behind = λ b. b; plans = ap (λ (j : Joint). length j.plans) one.leaves.same; counts = long one.taken one.leaves; less = same_less old.guaranteed; asked = refl; apart = λ b. b } in
+        let stays : Stays old mid = record { behind = λ b. b; plans = ap (λ (j : Joint). length j.plans) one.leaves.same; counts = long one.taken one.leaves; less = at_most old.guaranteed; asked = refl; apart = λ b. b } in
         let given = given_sound p planned would state after one.piece mid stepped one.obeys.0 rule (within_on p planned old mid stays w.within) small taken one.awaits one.obeys.1 one.obeys.2 in
         ends given.0 (same_others mid stepped given.1)
       where
-        same_less : (n : ℕ) → n ≤ n
-        same_less n = omega arith
-
         long : (taken : Joint) → TakeLeaves old.joint taken → length taken.counts ≡ length old.joint.counts
         long taken t = ap (λ (j : Joint). length j.counts) t.same ∙ counts_long old.joint
     by false still = ends (subst (λ (x : Shape). Sound p x.joint) (sym still.0) w.sound) (ap others still.0)
@@ -364,9 +357,6 @@ pages_left p next was lt e = omega (arith, lt, e)
 pages_same : (p next was : ℕ) → next ≡ was → (p - next) + 0 ≤ p - was
 pages_same p next was e = omega (arith, e)
 
-none_left : (n : ℕ) → 0 + 0 ≤ n
-none_left n = omega arith
-
 sum_by : (a b c d read : ℕ) → a ≡ b → d ≡ c → b + read ≤ c → a + read ≤ d
 sum_by a b c d read e f h = omega (arith, e, f, h)
 
@@ -404,12 +394,12 @@ page_others p s old stepped new c d control sound does turns reads e = record {
         sums 1 (subst (λ (x : Counts). x.pages ≤ c.pages + 1) (sym reads) (one_more c.pages greatest)) (ap (λ (x : Counts). x.records) reads) (sum_by (rest_of p new) (p - stepped.last.next) (p - old.last.next) (rest_of p old) 1 (rest_new FinalTable at_table) had (pages_left p stepped.last.next old.last.next turns.0 turns.1))
     by End does turns reads =
         let done : stepped.control ≡ Done = ap (λ (x : Shape). x.control) does ∙ ap (λ (c : Control). next_control old.strategy c FinalEnded) control in
-        sums 0 (no_more d.pages c.pages (ap (λ (x : Counts). x.pages) reads)) (ap (λ (x : Counts). x.records) reads) (sum_by (rest_of p new) 0 (p - old.last.next) (rest_of p old) 0 (rest_new Done done) had (none_left (p - old.last.next)))
+        sums 0 (no_more d.pages c.pages (ap (λ (x : Counts). x.pages) reads)) (ap (λ (x : Counts). x.records) reads) (sum_by (rest_of p new) 0 (p - old.last.next) (rest_of p old) 0 (rest_new Done done) had (zero_least (p - old.last.next)))
 
 -- all is done
 done_others : (p : ℕ) (old stepped new : Shape) (c d : Counts) → Sound p old.joint → stepped ≡ old → d ≡ c → new ≡ record stepped { trace = counted stepped.trace c d } → Others p old new
 done_others p old stepped new c d sound same reads e = record {
-  fewer = same_fewer (others new) (rest_of p new) (others old) (rest_of p old) (less_on (others new) (others stepped) (others old) (plus_none (others new) (others stepped) (rise_sum new.trace.pages new.trace.fetches stepped.trace.pages stepped.trace.fetches c.pages d.pages c.records d.records 0 0 greatest (counted_rise stepped new c d e).pages (counted_rise stepped new c d e).fetches (no_more d.pages c.pages (ap (λ (x : Counts). x.pages) reads)) (no_more d.records c.records (ap (λ (x : Counts). x.records) reads)))) (ap others same)) (ap (rest_of p) e ∙ ap (rest_of p) same);
+  fewer = same_fewer (others new) (rest_of p new) (others old) (rest_of p old) (less_same (others new) (others stepped) (others old) (plus_none (others new) (others stepped) (rise_sum new.trace.pages new.trace.fetches stepped.trace.pages stepped.trace.fetches c.pages d.pages c.records d.records 0 0 greatest (counted_rise stepped new c d e).pages (counted_rise stepped new c d e).fetches (no_more d.pages c.pages (ap (λ (x : Counts). x.pages) reads)) (no_more d.records c.records (ap (λ (x : Counts). x.records) reads)))) (ap others same)) (ap (rest_of p) e ∙ ap (rest_of p) same);
   sound = new_joint p stepped new c d e (subst (λ (x : Shape). Sound p x.joint) (sym same) sound);
 }
 
@@ -422,9 +412,6 @@ does_others p planned would state after query shown c d s FinalTable old stepped
     let same : shown.pages old.query.table old.query.snap ≡ p = ap (λ (q : Query). shown.pages q.table q.snap) w.asked ∙ sym pages in
     page_others p s old stepped new c d control w.sound does.1 (subst (λ (n : ℕ). PageTurns s old.last stepped.last n) same does.2) reads e
 does_others p planned would state after query shown c d s Done old stepped new small pages rule w control does reads e = done_others p old stepped new c d w.sound does.2 reads e
-
-small_pages : (p planned most : ℕ) → p + 2 * planned < most → p ≤ most
-small_pages p planned most h = omega (arith, h)
 
 pub step_costs : (p planned : ℕ) (would : ℕ → Facts → Ruling) (query : Query) (shown : Shown) (old new : Shape) → p + 2 * planned < greatest → p ≡ shown.pages query.table query.snap → IsBounded would → Whole query p planned old → Steps would shown old new → Costs p 0 old new
 step_costs p planned would query shown old new small pages rule w steps =

@@ -3,6 +3,7 @@ use Rattle.std.proofs.Common.{◌≡◌, ℕ, ◌+◌, ◌-◌, ◌*◌, ◌^◌
 use Rattle.std.proofs.lemmas.Bool.Decides.{nat_tests}
 use Rattle.std.proofs.lemmas.List.{length-append, length-drop}
 use Rattle.std.proofs.lemmas.List.Sorted.{length_permutation}
+use Rattle.std.proofs.lemmas.Bool.{eqb-true}
 use Rattle.rv_value.specs.declared.record.IndexEntry.{IndexEntry}
 use Rattle.rv_judge.specs.declared.counting.Counts.{Counts}
 use Rattle.rv_judge.specs.declared.events.Control.{Control}
@@ -42,11 +43,13 @@ use Rattle.rv_bounded.specs.Calls.Call.{Step, StepLost, Take, TakeLost, Give}
 use Rattle.rv_bounded.specs.UnionReads.{UnionAllOver, UnionOver, UnionsAreBounded}
 use Rattle.rv_bounded.specs.Unions.{UnionDoesAll, UnionDoesCall, UnionGives, UnionSteps, UnionStepsLost, UnionTakes}
 use Rattle.rv_bounded.proofs.Ahead.{greatest}
-use Rattle.rv_bounded.proofs.Sound.{IsShort, built_sum, held_short, kept_most, kept_sum, projected_least, short_held}
-use Rattle.rv_bounded.proofs.Stages.{behind, drawn_short, list_fewer, lost_sum, none_lost, others_of, others_same, page_rise, record_rise, same_others, stage_by, stage_less, stage_most, still_sum, sum_to, table_fewer}
-use Rattle.rv_bounded.proofs.UnionLaws.{Leafs, Placed, UnionSpends, give_spends, gone_dropped, gone_listed, idle_spends, leafs_placed, not_scanning, one_page, one_record, only_leafs, only_scanning, opened_most, opened_placed, step_lost, step_spends, take_lost, take_spends, takes_leafs, union_ahead}
+use Rattle.rv_bounded.proofs.Sound.{IsShort, built_sum, held_short, kept_sum, projected_least, short_held}
+use Rattle.rv_bounded.proofs.Stages.{behind, drawn_short, list_fewer, others_of, others_same, page_rise, record_rise, same_others, stage_by, stage_less, stage_most, sum_to, table_fewer}
+use Rattle.rv_bounded.proofs.UnionLaws.{Leafs, Placed, UnionSpends, give_spends, gone_dropped, gone_listed, idle_spends, leafs_placed, not_scanning, only_leafs, only_scanning, opened_most, opened_placed, step_lost, step_spends, take_lost, take_spends, takes_leafs, union_ahead}
 use Rattle.rv_bounded.proofs.Costs.{back_sum}
-use Rattle.rv_bounded.proofs.WholeLaws.{add_lost, both_lost, same_less}
+use Rattle.rv_bounded.proofs.WholeLaws.{both_lost}
+use Rattle.rv_bounded.proofs.Sums.{less_more, le_on, same_less, risen_most, zero_least, add_lost, sum_none, sum_lost, still_sum}
+use Rattle.rv_bounded.proofs.Reading.{one_record, one_page}
 
 -- of the present member, and of those before it: each has put at most 48 keys to what is guaranteed
 pub record MemberSound (p : ℕ) (u : Unioned) : Type 0 where
@@ -98,14 +101,8 @@ stage_at p members u c e = ap (λ (k : Control). stage_by k (p + 48 * members) p
 -- WHAT A JUDGE THAT IS BOUNDED KEEPS TO: the keys of the members before, with those that the present one has kept, are fewer
 -- than are guaranteed.
 
-is_same : (a b : ℕ) → (a == b) ≡ true → a ≡ b
-is_same a b test = grind (arith, nat_tests)
-
 is_below : (a b : ℕ) → (a == b) ≡ false → a ≤ b → a < b
 is_below a b test h = grind (arith, nat_tests)
-
-least_most : (a b c : ℕ) → a ≡ min b c → a ≤ c
-least_most a b c e = omega (arith, e)
 
 full_sum : (kept keys before projected g most : ℕ) → min (kept + before) projected < g → before ≡ most → projected ≡ most → g ≤ most → kept + keys < g
 full_sum kept keys before projected g most few b p small = absurd (omega (arith, few, b, p, small))
@@ -126,8 +123,8 @@ listed_fewer control a scan g keys keeps fewer capped small = by (facts.projecte
     before b test = ap (λ (x : Bool). if x then greatest else facts.projected - alone) test
 
     by : (b : Bool) → (facts.projected == greatest) ≡ b → a.kept + keys < g
-    by true test = full_sum a.kept keys (keys_before facts) facts.projected g greatest keeps.few (before true test) (is_same facts.projected greatest test) small
-    by false test = told_sum a.kept keys (keys_before facts) facts.projected alone g greatest keeps.few (before false test) refl (is_below facts.projected greatest test (least_most facts.projected (alone + keys) greatest refl)) (projected_least a.estimate a.scanned a.kept fewer capped)
+    by true test = full_sum a.kept keys (keys_before facts) facts.projected g greatest keeps.few (before true test) (eqb-true facts.projected greatest test) small
+    by false test = told_sum a.kept keys (keys_before facts) facts.projected alone g greatest keeps.few (before false test) refl (is_below facts.projected greatest test (risen_most facts.projected (alone + keys) greatest refl)) (projected_least a.estimate a.scanned a.kept fewer capped)
 
 -- A PIECE IS ACCEPTED.
 
@@ -135,16 +132,10 @@ accepted_scanned : (piece : Pieced) (u : Unioned) → u.count.kept ≤ u.count.s
 accepted_scanned piece u less = kept_sum (accepted piece false u).count.kept u.count.kept (length (kept_of u piece)) (accepted piece false u).count.scanned u.count.scanned (length piece.entries) greatest refl refl less (kept_few (lacks u.keys) piece)
 
 accepted_capped : (piece : Pieced) (u : Unioned) → (accepted piece false u).count.kept ≤ greatest
-accepted_capped piece u = kept_most (accepted piece false u).count.kept (u.count.kept + length (kept_of u piece)) greatest refl
-
-less_on : (a b c : ℕ) → a < b → b ≤ c → a < c
-less_on a b c h m = omega (arith, h, m)
+accepted_capped piece u = risen_most (accepted piece false u).count.kept (u.count.kept + length (kept_of u piece)) greatest refl
 
 part_less : (a b c : ℕ) → a + b < c → a < c
 part_less a b c h = omega (arith, h)
-
-le_on : (a b c : ℕ) → a ≤ b → b ≤ c → a ≤ c
-le_on a b c h m = omega (arith, h, m)
 
 all_few : (keys built kept p member : ℕ) → kept + keys < p → built ≤ kept → keys + built ≤ p + 48 * member
 all_few keys built kept p member h b = omega (arith, h, b)
@@ -157,7 +148,7 @@ judged_sound p members would state piece old rule w small s goes =
     let scanned = accepted_scanned piece old s.scanned in
     let capped = accepted_capped piece old in
     let fewer = listed_fewer v.control (account_of v) (position v) v.guaranteed (length v.keys) keeps scanned capped (le_on v.guaranteed p greatest w.less small) in
-    let below = less_on (v.count.kept + length v.keys) v.guaranteed p fewer w.less in
+    let below = less_more (v.count.kept + length v.keys) v.guaranteed p fewer w.less in
     let sums = built_sum v.count.kept old.count.kept (length (kept_of old piece)) (length old.lane.building) (length (old.lane.building ++ kept_of old piece)) p greatest refl s.built (length-append old.lane.building (kept_of old piece)) (part_less v.count.kept (length v.keys) p below) small in
     record {
       scanned = scanned;
@@ -167,13 +158,10 @@ judged_sound p members would state piece old rule w small s goes =
       short = tt;
     }
 
-none_few : (n : ℕ) → 0 ≤ n
-none_few n = omega arith
-
 dropped_sound : (p members : ℕ) (verdict : Verdict) (u : Unioned) → scanning u.control ≡ true → goes_on verdict ≡ false → UnionSound p members (dropped verdict u)
 dropped_sound p members verdict u on off = record {
   member = λ h. not_scanning (scanning (next_control Union u.control (Ruled verdict false false))) h (gone_dropped verdict u.control on off);
-  keys = none_few (p + 48 * members);
+  keys = zero_least (p + 48 * members);
 }
 
 ruled_sound : (p members : ℕ) (verdict : Verdict) (u : Unioned) → scanning u.control ≡ true → length u.keys ≤ p + 48 * members → (goes_on verdict ≡ true → MemberSound p u) → UnionSound p members (ruled verdict u)
@@ -198,7 +186,7 @@ going_sound p members keys v there few = by (was_begun (index_of next) next.trac
     next = next_member (joined keys v)
 
     own : MemberSound p next
-    own = record { scanned = none_few 0; capped = none_few greatest; built = none_few 0; few = next_few (length keys) p v.member few; short = tt }
+    own = record { scanned = zero_least 0; capped = zero_least greatest; built = zero_least 0; few = next_few (length keys) p v.member few; short = tt }
 
     by : (b : Bool) → UnionSound p members (if b then next else told (Scan (index_of next)) next)
     by true = record { member = λ on. own; keys = all_members (length keys) p v.member members few there }
@@ -258,7 +246,7 @@ give_costs p members would old new small rule few w gives = by gives.given gives
       other = 0;
       both = refl;
       spends = spends;
-      fewer = still_sum (others_of new.trace) (stage_of p members new) (others_of old.trace) (stage_of p members old) (same_others old.trace new.trace gives.counts) (same_less (stage_of p members new) (stage_of p members old) (ap (stage_of p members) obeys.0));
+      fewer = sum_none (others_of new.trace) (others_of old.trace) (stage_of p members new) (stage_of p members old) (same_others old.trace new.trace gives.counts) (same_less (stage_of p members new) (stage_of p members old) (ap (stage_of p members) obeys.0));
       sound = subst (UnionSound p members) (sym obeys.0) w.sound;
     }
 
@@ -308,7 +296,7 @@ takes_costs p members lost taken shown old new spends w takes fits sum = record 
   other = 0;
   both = sum;
   spends = spends;
-  fewer = still_sum (others_of new.trace) (stage_of p members new) (others_of old.trace) (stage_of p members old) (piece_others old old.trace new.trace takes.before takes.behind takes.counts takes.reads) (same_less (stage_of p members new) (stage_of p members old) (ap (stage_of p members) takes.leaves.same));
+  fewer = sum_none (others_of new.trace) (others_of old.trace) (stage_of p members new) (stage_of p members old) (piece_others old old.trace new.trace takes.before takes.behind takes.counts takes.reads) (same_less (stage_of p members new) (stage_of p members old) (ap (stage_of p members) takes.leaves.same));
   sound = taken_sound p members old new (takes_same old new (ap (λ (x : Unioned). x.at) takes.leaves.same) takes.leaves.same) (fits_short new shown fits) w.sound;
 }
 
@@ -341,11 +329,11 @@ lost_costs p members shown old new small w lost fits = by old.control refl lost.
 
     -- a leaf at most was read
     leaf_lost : others_of new.trace ≤ others_of old.trace → UnionCosts p members 1 old new
-    leaf_lost none = costs 1 0 refl (step_lost p members old new small w.placed lost) (still_sum (others_of new.trace) (stage_of p members new) (others_of old.trace) (stage_of p members old) none stage)
+    leaf_lost none = costs 1 0 refl (step_lost p members old new small w.placed lost) (sum_none (others_of new.trace) (others_of old.trace) (stage_of p members new) (stage_of p members old) none stage)
 
     -- a record or a page at most
     other_lost : scanning old.control ≡ false → lost.behind.leaves ≡ lost.before.leaves → others_of new.trace ≤ others_of old.trace + 1 → UnionCosts p members 1 old new
-    other_lost off none one = costs 0 1 refl (idle_spends p members old new lost.before lost.behind w.placed leafs off lost.counts none) (lost_sum (others_of new.trace) (stage_of p members new) (others_of old.trace) (stage_of p members old) one stage)
+    other_lost off none one = costs 0 1 refl (idle_spends p members old new lost.before lost.behind w.placed leafs off lost.counts none) (sum_lost (others_of new.trace) (others_of old.trace) (stage_of p members new) (stage_of p members old) one stage)
 
     unread : lost.behind ≡ lost.before → UnionCosts p members 1 old new
     unread same = leaf_lost (others_same old.trace new.trace lost.before lost.behind lost.counts (ap (λ (x : Counts). x.pages) same) (ap (λ (x : Counts). x.records) same))
@@ -420,7 +408,7 @@ does_others p members would state after shown c d s FinalList old stepped new sm
 does_others p members would state after shown c d s FinalTable old stepped new small pages rule w is does rise e =
     stage_others p members s FinalTable old (record old { last = stepped.last }) stepped new c d (p - old.last.next) refl refl is refl does.2 e w.sound (stage_at p members old FinalTable is) (λ now. table_fewer (p + 48 * members) p (keys_work stepped) old.last stepped.last old.trace new.trace c d s stepped.control rise does.1 (subst (λ (n : ℕ). PageTurns s old.last stepped.last n) pages does.3) now)
 does_others p members would state after shown c d s Done old stepped new small pages rule w is does rise e = record {
-  fewer = still_sum (others_of new.trace) (stage_of p members new) (others_of old.trace) (stage_of p members old) (others_same old.trace new.trace c d rise (ap (λ (x : Counts). x.pages) does.2) (ap (λ (x : Counts). x.records) does.2)) (same_less (stage_of p members new) (stage_of p members old) (ap (stage_of p members) e ∙ ap (stage_of p members) does.3));
+  fewer = sum_none (others_of new.trace) (others_of old.trace) (stage_of p members new) (stage_of p members old) (others_same old.trace new.trace c d rise (ap (λ (x : Counts). x.pages) does.2) (ap (λ (x : Counts). x.records) does.2)) (same_less (stage_of p members new) (stage_of p members old) (ap (stage_of p members) e ∙ ap (stage_of p members) does.3));
   sound = counted_sound p members stepped new c d e (subst (UnionSound p members) (sym does.3) w.sound);
 }
 
@@ -455,7 +443,7 @@ record AllCost (p members lost : ℕ) (old new : Unioned) : Type 0 where
   fewer : others_of new.trace + stage_of p members new ≤ others_of old.trace + stage_of p members old + other
 
 all_cost : (p members : ℕ) (calls : List Call) (old new : Unioned) → p + 2 * members < greatest → p ≤ greatest → members ≤ 2 ^ 32 → UnionWhole p members old → (does : UnionDoesAll calls old new) → UnionAllOver calls p old new does → AllCost p members (lost_by calls) old new
-all_cost p members [] old new small most few w does over = subst (AllCost p members 0 old) (sym does) (record { whole = w; leaf = 0; other = 0; both = refl; leaves = none_lost old.trace.leaves (union_ahead p members old); fewer = none_lost (others_of old.trace) (stage_of p members old) })
+all_cost p members [] old new small most few w does over = subst (AllCost p members 0 old) (sym does) (record { whole = w; leaf = 0; other = 0; both = refl; leaves = still_sum old.trace.leaves (union_ahead p members old); fewer = still_sum (others_of old.trace) (stage_of p members old) })
 all_cost p members (call ∷ calls) old new small most few w does over =
     let mid = does.0 in
     let before = all_cost p members calls old mid small most few w does.1 over.0 in
@@ -491,10 +479,10 @@ unions_bounded table snap only plans cursor opening p calls opened now some few 
     small = small_all p members greatest less few refl
 
     first : MemberSound p opened
-    first = subst (MemberSound p) (sym is.is) (record { scanned = none_few 0; capped = none_few greatest; built = none_few 0; few = no_keys p 0; short = tt })
+    first = subst (MemberSound p) (sym is.is) (record { scanned = zero_least 0; capped = zero_least greatest; built = zero_least 0; few = no_keys p 0; short = tt })
 
     sound : UnionSound p members opened
-    sound = record { member = λ on. first; keys = subst (λ (x : Unioned). length x.keys ≤ p + 48 * members) (sym is.is) (none_few (p + 48 * members)) }
+    sound = record { member = λ on. first; keys = subst (λ (x : Unioned). length x.keys ≤ p + 48 * members) (sym is.is) (zero_least (p + 48 * members)) }
 
     whole : UnionWhole p members opened
     whole = record {

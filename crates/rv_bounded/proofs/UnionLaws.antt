@@ -1,9 +1,9 @@
 -- The leaves that a union reads, from its opening on.
-use Rattle.std.proofs.Common.{◌≡◌, ℕ, ◌+◌, ◌-◌, ◌*◌, ◌^◌, ◌<◌, ◌≤◌, List, [], ◌∷◌, length, min, Bool, true, false, not, ◌&&◌, Option, Some, None, is_some, nat_lt, inl, inr, refl, ap, sym, ◌∙◌, subst, arith, if◌then◌else◌}
-use Rattle.std.proofs.lemmas.Bool.Decides.{nat_tests}
+use Rattle.std.proofs.Common.{◌≡◌, ℕ, ◌+◌, ◌-◌, ◌*◌, ◌^◌, ◌<◌, ◌≤◌, List, [], ◌∷◌, length, min, Bool, true, false, not, Option, Some, None, is_some, nat_lt, refl, ap, sym, ◌∙◌, subst, arith, if◌then◌else◌}
+use Rattle.std.specs.Cmp.{first_so}
+use Rattle.std.proofs.lemmas.Bool.{ltb-true, ltb-false}
 use Rattle.rv_value.proofs.Tests.{no_other}
 use Rattle.rv_value.specs.declared.record.IndexEntry.{IndexEntry}
-use Rattle.rv_value.specs.declared.record.Record.{Record}
 use Rattle.rv_judge.specs.declared.counting.Counts.{Counts}
 use Rattle.rv_judge.specs.declared.events.Control.{Control}
 use Rattle.rv_judge.specs.declared.events.Control.TheVariants.{Building, ForegroundAlone, BackgroundAlone, FinalList, FinalTable, Done}
@@ -13,18 +13,16 @@ use Rattle.rv_judge.specs.declared.events.Strategy.TheVariants.{Union}
 use Rattle.rv_judge.specs.declared.judging.Facts.{Facts}
 use Rattle.rv_judge.specs.declared.judging.Verdict.{Verdict}
 use Rattle.rv_judge.specs.declared.judging.Verdict.TheVariants.{Continue, AbandonScan, AbandonForeground, AbandonBackground}
-use Rattle.rv_judge.specs.Counting.{leaf_read, page_read, record_read}
+use Rattle.rv_judge.specs.Counting.{leaf_read}
 use Rattle.rv_judge.specs.Course.{next_control}
 use Rattle.rv_judge.specs.Tracing.{CountsRise, counted}
 use Rattle.rv_judge.specs.Verdicts.{Ruling}
 use Rattle.rv_restrict.specs.declared.atom.Atom.{Atom}
 use Rattle.rv_reader.specs.declared.reader.Chunk.{Chunk}
 use Rattle.rv_reader.specs.Shown.{Shown}
-use Rattle.rv_scan.specs.Places.{PageReads}
-use Rattle.rv_scan.specs.Reads.{OneAtMost}
 use Rattle.rv_scan.specs.declared.skip.Scanned.{Scanned}
 use Rattle.rv_scan.specs.declared.skip.Scanned.TheVariants.{Found, Working, End}
-use Rattle.rv_final.specs.Stage.{FetchesKey, first_key}
+use Rattle.rv_final.specs.Stage.{first_key}
 use Rattle.rv_jscan.specs.declared.jscan.Given.{Given}
 use Rattle.rv_jscan.specs.declared.jscan.Given.TheVariants.{Accepted, Stale}
 use Rattle.rv_jscan.specs.declared.jscan.ScanCounts.{ScanCounts}
@@ -43,8 +41,10 @@ use Rattle.skew_judges.specs.Guard.{IsBounded, Keeps, goes_on, share}
 use Rattle.rv_bounded.specs.Calls.{Call, lost_by, lost_of}
 use Rattle.rv_bounded.specs.Calls.Call.{Step, StepLost, Take, TakeLost, Give}
 use Rattle.rv_bounded.specs.Unions.{UnionDoesAll, UnionDoesCall, UnionGives, UnionSteps, UnionStepsLost, UnionTakes, UnionsReadFewLeaves}
-use Rattle.rv_bounded.proofs.Ahead.{greatest, has_held, held_one, one_held}
-use Rattle.rv_bounded.proofs.Shares.{all_scans, first_scan, share_less, share_within, to_read}
+use Rattle.rv_bounded.proofs.Ahead.{greatest, has_held, held_one, one_held, none_held, held_few, small_share}
+use Rattle.rv_bounded.proofs.Shares.{all_scans, first_scan, share_less, to_read}
+use Rattle.rv_bounded.proofs.Sums.{read_sum, less_by, share_more, both_less, both_more, rise_one, same_one, min_left, sum_read, sum_none, sum_lost, sum_more, great_sum, same_less, zero_most, risen_most, add_lost, from_first, whole_sum, rise_none, quiet_sum, still_sum, lost_sum}
+use Rattle.rv_bounded.proofs.Reading.{one_record, one_page, page_none, key_none}
 
 -- WHAT HOLDS FROM OPENING ON: the members are so many, the present one is one of them, and no more is guaranteed than the
 -- table's pages
@@ -88,12 +88,6 @@ not_scanning false on off = absurd (cc)
 
 -- Sums.
 
-read_sum : (new old whole rest share spent after held had most : ℕ) → new ≡ whole - min after (1 + share + held) → old ≡ whole - min spent (1 + share + had) → whole ≡ 2 + share + rest → after ≡ min (spent + 1) most → held ≡ 1 → had ≡ 0 → 2 + share ≤ most → new + 1 ≤ old
-read_sum new old whole rest share spent after held had most n o w a h d s = omega (arith, n, o, w, a, h, d, s)
-
-lost_sum : (new old whole rest share spent after held had most : ℕ) → new ≡ whole - min after (1 + share + held) → old ≡ whole - min spent (1 + share + had) → whole ≡ 2 + share + rest → after ≡ min (spent + 1) most → had ≡ 0 → 2 + share ≤ most → new ≤ old
-lost_sum new old whole rest share spent after held had most n o w a d s = omega (arith, n, o, w, a, d, s)
-
 next_sum : (new old whole rest share spent taken had : ℕ) → new ≡ rest - taken → old ≡ whole - min spent (1 + share + had) → whole ≡ 2 + share + rest → had ≤ 1 → new ≤ old
 next_sum new old whole rest share spent taken had n o w h = omega (arith, n, o, w, h)
 
@@ -102,40 +96,6 @@ stay_sum new old whole share after spent held had n o a s = omega (arith, n, o, 
 
 more_sum : (new old whole share spent held had : ℕ) → new ≡ whole - min spent (1 + share + held) → old ≡ whole - min spent (1 + share + had) → had ≤ 1 → new ≤ old + 1
 more_sum new old whole share spent held had n o h = omega (arith, n, o, h)
-
-held_few : (h : Option Chunk) → held_one h ≤ 1
-held_few None = omega arith
-held_few (Some c) = omega arith
-
-none_held : (b : Bool) (h : Option Chunk) → (b && not (is_some h)) ≡ true → held_one h ≡ 0
-none_held b None e = refl
-none_held true (Some c) e = absurd (cc)
-none_held false (Some c) e = absurd (cc)
-
-left_true : (a b : Bool) → (a && b) ≡ true → a ≡ true
-left_true true b h = refl
-left_true false b h = h
-
-small_share : (p scan members : ℕ) → scan < members → p + 2 * members < greatest → 2 + share p scan ≤ greatest
-small_share p scan members lt small = let within = share_within p scan in omega (arith, lt, small, within)
-
-idle_less : (z q : ℕ) → z ≡ 0 → z ≤ q
-idle_less z q e = omega (arith, e)
-
-less_by : (a b q : ℕ) → a ≡ b → b ≤ q → a ≤ q
-less_by a b q e h = omega (arith, e, h)
-
-le_on : (a b c : ℕ) → a ≤ b → b ≤ c → a ≤ c
-le_on a b c h g = omega (arith, h, g)
-
-same_less : (a b : ℕ) → a ≡ b → a ≤ b
-same_less a b e = omega (arith, e)
-
-is_less : (a b : ℕ) → nat_lt a b ≡ true → a < b
-is_less a b test = grind (arith, nat_tests)
-
-is_more : (a b : ℕ) → nat_lt a b ≡ false → b ≤ a
-is_more a b test = grind (arith, nat_tests)
 
 -- What a give leaves ahead.
 record Lowers (p members q : ℕ) (new : Unioned) : Type 0 where
@@ -160,7 +120,7 @@ dropped_lowers p members q verdict u w on off =
     let idle = gone_dropped verdict u.control on off in
     record {
       placed = record { plans = w.plans; there = w.there; less = w.less };
-      fewer = idle_less (union_ahead p members (dropped verdict u)) q (idle_left p members (dropped verdict u) idle);
+      fewer = zero_most (union_ahead p members (dropped verdict u)) q (idle_left p members (dropped verdict u) idle);
     }
 
 ruled_lowers : (p members q : ℕ) (verdict : Verdict) (u : Unioned) → Placed p members u → scanning u.control ≡ true → (goes_on verdict ≡ true → union_sum p members u ≤ q) → Lowers p members q (ruled verdict u)
@@ -181,11 +141,8 @@ over_lowers : (p members q : ℕ) (u : Unioned) → Placed p members u → scann
 over_lowers p members q u w on left = by (has_next u) refl
   where
     by : (b : Bool) → has_next u ≡ b → Lowers p members q (if b then going_on u else listed u)
-    by true more = going_lowers p members q u w on (subst (λ (n : ℕ). u.member + 1 < n) w.plans (is_less (u.member + 1) (length u.plans) more)) left
-    by false none = record { placed = record { plans = w.plans; there = w.there; less = w.less }; fewer = idle_less (union_ahead p members (listed u)) q (idle_left p members (listed u) (gone_listed u.control on)) }
-
-share_more : (spent share more : ℕ) → spent ≤ 1 + share → share ≤ more → spent ≤ 1 + more
-share_more spent share more s m = omega (arith, s, m)
+    by true more = going_lowers p members q u w on (subst (λ (n : ℕ). u.member + 1 < n) w.plans (ltb-true (u.member + 1) (length u.plans) more)) left
+    by false none = record { placed = record { plans = w.plans; there = w.there; less = w.less }; fewer = zero_most (union_ahead p members (listed u)) q (idle_left p members (listed u) (gone_listed u.control on)) }
 
 -- the position of a member is its own where members are not too many
 own_position : (member members most : ℕ) → member < members → members ≤ most → min member (most - 1) ≡ member
@@ -218,9 +175,6 @@ given_lowers p members would state after piece old new rule few w on obeys = by 
 
 same_sum : (now was left q had : ℕ) → now ≡ was → left ≤ q → had ≡ q → now + left ≤ was + had + 0
 same_sum now was left q had e h g = omega (arith, e, h, g)
-
-still_sum : (n a : ℕ) → n + a ≤ n + a + 0
-still_sum n a = omega arith
 
 still_spends : (p members : ℕ) (old new : Unioned) → Placed p members old → new ≡ old → UnionSpends p members 0 old new
 still_spends p members old new w e = subst (UnionSpends p members 0 old) (sym e) (record { placed = w; fewer = still_sum old.trace.leaves (union_ahead p members old) })
@@ -258,14 +212,8 @@ leafs_sum p members old new t b e =
 both_one : (a b c d : ℕ) → a ≡ c → b ≡ d → c + 1 ≤ d → a + 1 ≤ b
 both_one a b c d e f h = omega (arith, e, f, h)
 
-both_less : (a b c d : ℕ) → a ≡ c → b ≡ d → c ≤ d → a ≤ b
-both_less a b c d e f h = omega (arith, e, f, h)
-
-both_more : (a b c d : ℕ) → a ≡ c → b ≡ d → c ≤ d + 1 → a ≤ b + 1
-both_more a b c d e f h = omega (arith, e, f, h)
-
 is_scanning : (u : Unioned) → reads_leaf u ≡ true → scanning u.control ≡ true
-is_scanning u h = left_true (scanning u.control) (not (is_some u.lane.held)) h
+is_scanning u h = first_so (scanning u.control) (not (is_some u.lane.held)) h
 
 leafs_read : (p members : ℕ) (old new : Unioned) → p + 2 * members < greatest → Placed p members old → Leafs old new → reads_leaf old ≡ true → is_some new.lane.held ≡ true → union_ahead p members new + 1 ≤ union_ahead p members old
 leafs_read p members old new small w t reads has =
@@ -285,7 +233,7 @@ leafs_none p members old new t none same = by (scanning old.control) refl
   where
     by : (b : Bool) → scanning old.control ≡ b → union_ahead p members new ≤ union_ahead p members old
     by true on = both_less (union_ahead p members new) (union_ahead p members old) (union_sum p members old) (union_sum p members old) (scanning_left p members new (ap scanning t.control ∙ on) ∙ leafs_sum p members old new t false none ∙ ap (λ (l : Laned). member_sum p members old.member old.count l.held) (same on)) (scanning_left p members old on) (same_less (union_sum p members old) (union_sum p members old) refl)
-    by false off = idle_less (union_ahead p members new) (union_ahead p members old) (idle_left p members new (ap scanning t.control ∙ off))
+    by false off = zero_most (union_ahead p members new) (union_ahead p members old) (idle_left p members new (ap scanning t.control ∙ off))
 
 -- or may go
 leafs_gone : (p members : ℕ) (old new : Unioned) → Leafs old new → reads_leaf old ≡ false → scanning old.control ≡ true → union_ahead p members new ≤ union_ahead p members old + 1
@@ -295,39 +243,15 @@ leafs_gone p members old new t none on =
 
 -- Counts.
 
-rise_one : (now was before behind most : ℕ) → now ≡ min (was + (behind - before)) most → behind ≤ before + 1 → now ≤ was + 1
-rise_one now was before behind most n b = omega (arith, n, b)
-
-rise_none : (now was before behind most : ℕ) → now ≡ min (was + (behind - before)) most → behind ≡ before → now ≤ was
-rise_none now was before behind most n b = omega (arith, n, b)
-
-same_one : (behind before : ℕ) → behind ≡ before → behind ≤ before + 1
-same_one behind before e = omega (arith, e)
-
 piece_one : (u : Unioned) (c : Counts) → (piece_read u c).leaves ≤ c.leaves + 1
 piece_one u c = by (reads_leaf u)
   where
-    least : (n most : ℕ) → min n most ≤ n
-    least n most = omega arith
-
     by : (b : Bool) → (if b then leaf_read c else c).leaves ≤ c.leaves + 1
-    by true = least (c.leaves + 1) greatest
+    by true = min_left (c.leaves + 1) greatest
     by false = same_one c.leaves c.leaves refl
 
 piece_none : (u : Unioned) (c : Counts) → reads_leaf u ≡ false → piece_read u c ≡ c
 piece_none u c none = ap (λ (b : Bool). if b then leaf_read c else c) none
-
-sum_read : (now was left had : ℕ) → now ≤ was + 1 → left + 1 ≤ had → now + left ≤ was + had + 0
-sum_read now was left had n l = omega (arith, n, l)
-
-sum_none : (now was left had : ℕ) → now ≤ was → left ≤ had → now + left ≤ was + had + 0
-sum_none now was left had n l = omega (arith, n, l)
-
-sum_lost : (now was left had : ℕ) → now ≤ was + 1 → left ≤ had → now + left ≤ was + had + 1
-sum_lost now was left had n l = omega (arith, n, l)
-
-sum_more : (now was left had : ℕ) → now ≤ was → left ≤ had + 1 → now + left ≤ was + had + 1
-sum_more now was left had n l = omega (arith, n, l)
 
 pub takes_leafs : (old new : Unioned) → TakesLeaf old new → Leafs old new
 takes_leafs old new t = record {
@@ -379,14 +303,6 @@ only_leafs old new t = record {
   guaranteed = ap (λ (x : Unioned). x.guaranteed) t.same;
 }
 
-pub one_record : (c d : Counts) → OneAtMost record_read c d → d.leaves ≡ c.leaves
-one_record c d (inl same) = ap (λ (x : Counts). x.leaves) same
-one_record c d (inr read) = ap (λ (x : Counts). x.leaves) read
-
-pub one_page : (c d : Counts) → OneAtMost page_read c d → d.leaves ≡ c.leaves
-one_page c d (inl same) = ap (λ (x : Counts). x.leaves) same
-one_page c d (inr read) = ap (λ (x : Counts). x.leaves) read
-
 may_one : (control : Control) (u : Unioned) (c d : Counts) → MayRead control u c d → d.leaves ≤ c.leaves + 1
 may_one Building u c d reads = same_one d.leaves c.leaves (ap (λ (x : Counts). x.leaves) reads)
 may_one ForegroundAlone u c d reads = same_one d.leaves c.leaves (ap (λ (x : Counts). x.leaves) reads)
@@ -399,7 +315,7 @@ may_one Done u c d reads = same_one d.leaves c.leaves (ap (λ (x : Counts). x.le
 pub idle_spends : (p members : ℕ) (old new : Unioned) (c d : Counts) → Placed p members old → Leafs old new → scanning old.control ≡ false → CountsRise old.trace new.trace c d → d.leaves ≡ c.leaves → UnionSpends p members 0 old new
 idle_spends p members old new c d w leafs off rise none = record {
   placed = leafs_placed p members old new w leafs;
-  fewer = sum_none new.trace.leaves old.trace.leaves (union_ahead p members new) (union_ahead p members old) (rise_none new.trace.leaves old.trace.leaves c.leaves d.leaves greatest rise.leaves none) (idle_less (union_ahead p members new) (union_ahead p members old) (idle_left p members new (ap scanning leafs.control ∙ off)));
+  fewer = sum_none new.trace.leaves old.trace.leaves (union_ahead p members new) (union_ahead p members old) (rise_none new.trace.leaves old.trace.leaves c.leaves d.leaves greatest rise.leaves none) (zero_most (union_ahead p members new) (union_ahead p members old) (idle_left p members new (ap scanning leafs.control ∙ off)));
 }
 
 pub step_lost : (p members : ℕ) (old new : Unioned) → p + 2 * members < greatest → Placed p members old → UnionStepsLost old new → UnionSpends p members 1 old new
@@ -455,23 +371,11 @@ counted_placed p members stepped new c d e w = subst (Placed p members) (sym e) 
 counted_ahead : (p members : ℕ) (stepped new : Unioned) (c d : Counts) → new ≡ record stepped { trace = counted stepped.trace c d } → union_ahead p members new ≡ union_ahead p members stepped
 counted_ahead p members stepped new c d e = ap (union_ahead p members) e
 
-key_none : (key : Option ℕ) (only : List (List Atom)) (rows : List Record) (c d : Counts) (s : Scanned) → FetchesKey key only rows c d s → d.leaves ≡ c.leaves
-key_none None only rows c d s f = ap (λ (x : Counts). x.leaves) f.1
-key_none (Some key) only rows c d s f = ap (λ (x : Counts). x.leaves) f.0
-
-page_none : (s : Scanned) (c d : Counts) → PageReads s c d → d.leaves ≡ c.leaves
-page_none (Found r) c d reads = ap (λ (x : Counts). x.leaves) reads
-page_none Working c d reads = ap (λ (x : Counts). x.leaves) reads
-page_none End c d reads = ap (λ (x : Counts). x.leaves) reads
-
 piece_sum : (now was left stepped sum taken had : ℕ) → now ≤ was + 1 → left ≡ stepped → stepped ≤ sum → taken ≡ sum → taken + 1 ≤ had → now + left ≤ was + had + 0
 piece_sum now was left stepped sum taken had n e s g t = omega (arith, n, e, s, g, t)
 
 none_sum : (now was left stepped sum taken had : ℕ) → now ≤ was → left ≡ stepped → stepped ≤ sum → taken ≡ sum → taken ≤ had → now + left ≤ was + had + 0
 none_sum now was left stepped sum taken had n e s g t = omega (arith, n, e, s, g, t)
-
-quiet_sum : (now was left stepped had : ℕ) → now ≤ was → left ≡ stepped → stepped ≤ had → now + left ≤ was + had + 0
-quiet_sum now was left stepped had n e s = omega (arith, n, e, s)
 
 does_spends : (p members : ℕ) (would : ℕ → Facts → Ruling) (state after : ℕ) (shown : Shown) (c d : Counts) (s : Scanned) (control : Control) (old stepped new : Unioned) → p + 2 * members < greatest → IsBounded would → members ≤ 2 ^ 32 → Placed p members old → old.control ≡ control → DoesAs control would state after shown c d s old stepped → CountsRise old.trace new.trace c d → new ≡ record stepped { trace = counted stepped.trace c d } → UnionSpends p members 0 old new
 does_spends p members would state after shown c d s Building old stepped new small rule few w is does rise e = absurd does
@@ -503,13 +407,13 @@ does_spends p members would state after shown c d s FinalList old stepped new sm
     let stage = stage_lowers p members s old (record old { at = stepped.at }) stepped w (ap scanning is) refl refl refl refl (ap (λ (x : Control). scanning (next_control Union x FinalEnded)) is) does.2 in
     record {
       placed = counted_placed p members stepped new c d e stage.0;
-      fewer = quiet_sum new.trace.leaves old.trace.leaves (union_ahead p members new) (union_ahead p members stepped) (union_ahead p members old) (rise_none new.trace.leaves old.trace.leaves c.leaves d.leaves greatest rise.leaves (key_none (first_key (Some old.keys) None old.at) old.only (rows_of old shown) c d s does.1)) (counted_ahead p members stepped new c d e) (idle_less (union_ahead p members stepped) (union_ahead p members old) stage.1);
+      fewer = quiet_sum new.trace.leaves old.trace.leaves (union_ahead p members new) (union_ahead p members stepped) (union_ahead p members old) (rise_none new.trace.leaves old.trace.leaves c.leaves d.leaves greatest rise.leaves (key_none (first_key (Some old.keys) None old.at) old.only (rows_of old shown) c d s does.1)) (counted_ahead p members stepped new c d e) (zero_most (union_ahead p members stepped) (union_ahead p members old) stage.1);
     }
 does_spends p members would state after shown c d s FinalTable old stepped new small rule few w is does rise e =
     let stage = stage_lowers p members s old (record old { last = stepped.last }) stepped w (ap scanning is) refl refl refl refl (ap (λ (x : Control). scanning (next_control Union x FinalEnded)) is) does.2 in
     record {
       placed = counted_placed p members stepped new c d e stage.0;
-      fewer = quiet_sum new.trace.leaves old.trace.leaves (union_ahead p members new) (union_ahead p members stepped) (union_ahead p members old) (rise_none new.trace.leaves old.trace.leaves c.leaves d.leaves greatest rise.leaves (page_none s c d does.1)) (counted_ahead p members stepped new c d e) (idle_less (union_ahead p members stepped) (union_ahead p members old) stage.1);
+      fewer = quiet_sum new.trace.leaves old.trace.leaves (union_ahead p members new) (union_ahead p members stepped) (union_ahead p members old) (rise_none new.trace.leaves old.trace.leaves c.leaves d.leaves greatest rise.leaves (page_none s c d does.1)) (counted_ahead p members stepped new c d e) (zero_most (union_ahead p members stepped) (union_ahead p members old) stage.1);
     }
 does_spends p members would state after shown c d s Done old stepped new small rule few w is does rise e =
     record {
@@ -529,9 +433,6 @@ does_call p members Take would old new small rule few w does = take_spends p mem
 does_call p members TakeLost would old new small rule few w does = take_lost p members old new small w does
 does_call p members Give would old new small rule few w does = give_spends p members would old new rule few w does
 
-add_lost : (now mid was lost more : ℕ) → mid ≤ was + lost → now ≤ mid + more → now ≤ was + (lost + more)
-add_lost now mid was lost more h g = omega (arith, h, g)
-
 all_spend : (p members : ℕ) (calls : List Call) (old new : Unioned) → p + 2 * members < greatest → members ≤ 2 ^ 32 → Placed p members old → UnionDoesAll calls old new → UnionSpends p members (lost_by calls) old new
 all_spend p members [] old new small few w does = still_spends p members old new w does
 all_spend p members (call ∷ calls) old new small few w does =
@@ -544,18 +445,12 @@ all_spend p members (call ∷ calls) old new small few w does =
 
 -- A count stays at the greatest number.
 
-risen_most : (now risen most : ℕ) → now ≡ min risen most → now ≤ most
-risen_most now risen most e = omega (arith, e)
-
-same_most : (now was most : ℕ) → now ≡ was → was ≤ most → now ≤ most
-same_most now was most e h = omega (arith, e, h)
-
 call_counted : (call : Call) (would : ℕ → Facts → Ruling) (old new : Unioned) → UnionDoesCall call would old new → old.trace.leaves ≤ greatest → new.trace.leaves ≤ greatest
 call_counted Step would old new does most = risen_most new.trace.leaves (old.trace.leaves + (does.behind.leaves - does.before.leaves)) greatest does.counts.leaves
 call_counted StepLost would old new does most = risen_most new.trace.leaves (old.trace.leaves + (does.behind.leaves - does.before.leaves)) greatest does.counts.leaves
 call_counted Take would old new does most = risen_most new.trace.leaves (old.trace.leaves + (does.1.behind.leaves - does.1.before.leaves)) greatest does.1.counts.leaves
 call_counted TakeLost would old new does most = risen_most new.trace.leaves (old.trace.leaves + (does.behind.leaves - does.before.leaves)) greatest does.counts.leaves
-call_counted Give would old new does most = same_most new.trace.leaves old.trace.leaves greatest does.counts.leaves most
+call_counted Give would old new does most = less_by new.trace.leaves old.trace.leaves greatest does.counts.leaves most
 
 all_counted : (calls : List Call) (old new : Unioned) → UnionDoesAll calls old new → old.trace.leaves ≤ greatest → new.trace.leaves ≤ greatest
 all_counted [] old new does most = subst (λ (x : Unioned). x.trace.leaves ≤ greatest) (sym does) most
@@ -563,20 +458,8 @@ all_counted (call ∷ calls) old new does most = call_counted call does.2.would 
 
 -- THE LAW
 
-whole_sum : (now left was had most lost : ℕ) → now + left ≤ was + had + lost → was ≡ 0 → had ≤ most → now ≤ most + lost
-whole_sum now left was had most lost h z m = omega (arith, h, z, m)
-
-great_sum : (now most bound lost : ℕ) → now ≤ most → most ≤ bound → now ≤ bound + lost
-great_sum now most bound lost h m = omega (arith, h, m)
-
-zero_most : (n most : ℕ) → n ≡ 0 → n ≤ most
-zero_most n most e = omega (arith, e)
-
 minus_less : (whole taken all most : ℕ) → whole ≡ all → all ≤ most → whole - taken ≤ most
 minus_less whole taken all most w h = omega (arith, w, h)
-
-from_first : (n : ℕ) → n - 0 ≡ n
-from_first n = omega arith
 
 some_below : (n : ℕ) → 1 ≤ n → 0 < n
 some_below n h = omega (arith, h)
@@ -607,6 +490,6 @@ unions_few table snap only plans cursor opening pages calls opened now some few 
 
     by : (b : Bool) → nat_lt (pages + 2 * members) greatest ≡ b → now.trace.leaves ≤ pages + 2 * members + lost_by calls
     by true test =
-        let spent = all_spend pages members calls opened now (is_less (pages + 2 * members) greatest test) few placed does in
+        let spent = all_spend pages members calls opened now (ltb-true (pages + 2 * members) greatest test) few placed does in
         whole_sum now.trace.leaves (union_ahead pages members now) opened.trace.leaves (union_ahead pages members opened) (pages + 2 * members) (lost_by calls) spent.fewer none ahead
-    by false test = great_sum now.trace.leaves greatest (pages + 2 * members) (lost_by calls) (all_counted calls opened now does (zero_most opened.trace.leaves greatest none)) (is_more (pages + 2 * members) greatest test)
+    by false test = great_sum now.trace.leaves greatest (pages + 2 * members) (lost_by calls) (all_counted calls opened now does (zero_most opened.trace.leaves greatest none)) (ltb-false (pages + 2 * members) greatest test)

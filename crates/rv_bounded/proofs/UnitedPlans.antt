@@ -1,5 +1,5 @@
 -- The reads of a plan over one FROM item whose members are put together, from its opening on.
-use Rattle.std.proofs.Common.{◌≡◌, ℕ, ◌+◌, ◌*◌, ◌≤◌, List, [], ◌∷◌, length, Bool, true, false, not, ◌&&◌, Option, Some, None, is_some, Box, inl, inr, refl, ap, sym, ◌∙◌, subst, arith}
+use Rattle.std.proofs.Common.{◌≡◌, ℕ, ◌+◌, ◌*◌, ◌≤◌, List, [], ◌∷◌, length, Bool, true, false, not, ◌&&◌, Option, Some, None, is_some, Box, inl, inr, refl, ap, sym, ◌∙◌, subst}
 use Rattle.std.specs.Prelude.{if◌then◌else◌}
 use Rattle.std.specs.declared.alloc.Global.{Global}
 use Rattle.rv_judge.specs.declared.counting.Counts.{Counts}
@@ -36,8 +36,9 @@ use Rattle.rv_bounded.specs.OtherPlans.{UnitedPlansAreBounded, united_pages}
 use Rattle.rv_bounded.specs.Plans.{PlanBegins, lost_leaf}
 use Rattle.rv_bounded.specs.UnionReads.{UnionAllOver, UnionOver}
 use Rattle.rv_bounded.specs.Unions.{UnionDoesAll, UnionDoesCall}
-use Rattle.rv_bounded.proofs.OnePlan.{DoesHere, Kept, KeepsOn, all_kept, less_lost, more_lost, none_lost, told_here}
+use Rattle.rv_bounded.proofs.OnePlan.{DoesHere, Kept, KeepsOn, all_kept, less_lost, more_lost, told_here}
 use Rattle.rv_bounded.proofs.UnionCosts.{unions_bounded}
+use Rattle.rv_bounded.proofs.Sums.{zero_least, there_sum}
 
 -- A CALL OF THE PLAN IS ONE OF ITS UNION, over a table of so many pages
 
@@ -77,7 +78,7 @@ taken_call lost would shown c d u s rule leaf reads fits rise within = by (union
     same = ap (λ (q : UnitedQuery). q.query) leaf.same
 
     found : ((taken : Taken) × TakesPiece s.value.union taken) → Called shown lost u (Uniting s)
-    found (taken, answers) = record { box = s; is = refl; same = same; call = Take; would = would; bounded = rule; does = (taken, record { before = c; behind = d; leaves = leaf.leaves; reads = reads; answers = answers; counts = rise }); over = (shown, fits); within = none_lost lost }
+    found (taken, answers) = record { box = s; is = refl; same = same; call = Take; would = would; bounded = rule; does = (taken, record { before = c; behind = d; leaves = leaf.leaves; reads = reads; answers = answers; counts = rise }); over = (shown, fits); within = zero_least lost }
 
     by : (o : Option PieceId) (h : Option Chunk) → union_awaited s.value.union ≡ o → s.value.union.lane.held ≡ h → (if is_some o && not (is_some h) then 1 else 0) ≤ lost → Called shown lost u (Uniting s)
     by None h awaits held within = found (Nothing, none_awaited s.value.union awaits)
@@ -96,7 +97,7 @@ call_of lost would shown u (Uniting s) rule was fits (inl (None, steps, within))
     let only = (steps.calls.wants refl).2 in
     record { box = s; is = refl; same = ap (λ (q : UnitedQuery). q.query) only.same; call = StepLost; would = would; bounded = rule; does = record { before = steps.before; behind = steps.behind; only = only.only; may_read = steps.calls.may_read; counts = steps.counts }; over = (shown, fits.union); within = within }
 call_of lost would shown u (Uniting s) rule was fits (inr (inl (takes, within))) = taken_call lost would shown takes.before takes.behind u.value s rule takes.leaf takes.reads fits.union takes.counts within
-call_of lost would shown u (Uniting s) rule was fits (inr (inr gives)) = record { box = s; is = refl; same = ap (λ (q : UnitedQuery). q.query) gives.obeys.same; call = Give; would = would; bounded = rule; does = record { state = gives.state; after = gives.after; piece = gives.piece; given = Accepted; answers = gives.awaits; obeys = gives.obeys.gives; counts = gives.counts }; over = tt; within = none_lost lost }
+call_of lost would shown u (Uniting s) rule was fits (inr (inr gives)) = record { box = s; is = refl; same = ap (λ (q : UnitedQuery). q.query) gives.obeys.same; call = Give; would = would; bounded = rule; does = record { state = gives.state; after = gives.after; piece = gives.piece; given = Accepted; answers = gives.awaits; obeys = gives.obeys.gives; counts = gives.counts }; over = tt; within = zero_least lost }
 call_of lost would shown u (Competing v) rule was fits (inl (Some fg, steps, within)) = absurd steps.calls.does
 call_of lost would shown u (Competing v) rule was fits (inl (None, steps, within)) = absurd ((steps.calls.wants refl).2)
 call_of lost would shown u (Competing v) rule was fits (inr (inl (takes, within))) = absurd takes.leaf
@@ -151,12 +152,9 @@ begins_union shown opened u begins = begun opened.asked.race shown opened.asked.
 told_as : (shown : Shown) (p : Planned) (u : Box UnitedQuery Global) → PlanFits shown p → IsAlone p → p.stack.at.here ≡ Uniting u → reads_told (plan_trace p) ≡ reads_told u.value.union.trace
 told_as shown p u fits one here = told_here shown p fits one ∙ ap (λ (a : Access). reads_told (trace_of a)) here
 
-there_sum : (now a most calls lost : ℕ) → now ≡ a → a ≤ most + calls → calls ≤ lost → now ≤ most + lost
-there_sum now a most calls lost n h l = omega (arith, n, h, l)
-
 pub united_plans_bounded : UnitedPlansAreBounded
 united_plans_bounded shown calls lost opened now u begins few less made =
-    let there : Kept (Reached shown u.value) shown lost now = all_kept (Reached shown u.value) shown calls lost opened now (reached_on shown u.value) (record { fits = begins.fits; one = begins.one }) (λ n. record { box = u; is = begins.here; same = refl; calls = []; made = refl; over = tt; within = none_lost n }) made in
+    let there : Kept (Reached shown u.value) shown lost now = all_kept (Reached shown u.value) shown calls lost opened now (reached_on shown u.value) (record { fits = begins.fits; one = begins.one }) (λ n. record { box = u; is = begins.here; same = refl; calls = []; made = refl; over = tt; within = zero_least n }) made in
     let at = there.holds in
     let first = begins_union shown opened u begins in
     let law = unions_bounded u.value.query.table u.value.query.snap u.value.query.only u.value.union.plans opened.asked.cursor 1 (united_pages shown u.value) at.calls u.value.union at.box.value.union first.some few less first.opened at.made at.over in

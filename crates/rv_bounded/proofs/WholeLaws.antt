@@ -1,5 +1,5 @@
 -- The reads of a background that runs alone, and of what follows it, from its opening on.
-use Rattle.std.proofs.Common.{◌≡◌, ℕ, ◌+◌, ◌-◌, ◌*◌, ◌^◌, ◌<◌, ◌≤◌, List, [], ◌∷◌, length, min, Bool, false, refl, ap, sym, ◌∙◌, subst, arith}
+use Rattle.std.proofs.Common.{◌≡◌, ℕ, ◌+◌, ◌-◌, ◌*◌, ◌^◌, ◌<◌, ◌≤◌, List, [], ◌∷◌, length, Bool, false, refl, ap, sym, ◌∙◌, subst, arith}
 use Rattle.rv_judge.specs.declared.events.Control.TheVariants.{BackgroundAlone}
 use Rattle.rv_judge.specs.declared.events.Strategy.{Strategy}
 use Rattle.rv_judge.specs.declared.events.Strategy.TheVariants.{BackgroundOnly}
@@ -22,15 +22,13 @@ use Rattle.rv_bounded.specs.Calls.{Call, DoesAll, DoesCall, lost_by, lost_of}
 use Rattle.rv_bounded.specs.Calls.Call.{Step, StepLost, Take, TakeLost, Give}
 use Rattle.rv_bounded.proofs.Ahead.{ahead, greatest}
 use Rattle.rv_bounded.proofs.Controls.{is_apart, is_behind}
-use Rattle.rv_bounded.proofs.Costs.{Costs, Whole, give_costs, others, rest_back, rest_of, still_sum, whole_on}
+use Rattle.rv_bounded.proofs.Costs.{Costs, Whole, give_costs, others, rest_back, rest_of, whole_on}
 use Rattle.rv_bounded.proofs.Shares.{all_scans, to_read}
 use Rattle.rv_bounded.proofs.Sound.{first_sound}
 use Rattle.rv_bounded.proofs.StepCosts.{step_costs, step_lost_costs, take_costs, take_lost_costs}
+use Rattle.rv_bounded.proofs.Sums.{same_less, add_lost, small_pages, from_first, minus_less, none_risen, still_sum}
 
 -- ONE CALL
-
-pub small_pages : (p planned most : ℕ) → p + 2 * planned < most → p ≤ most
-small_pages p planned most h = omega (arith, h)
 
 pub does_call : (p planned : ℕ) (query : Query) (shown : Shown) (call : Call) (would : ℕ → Facts → Ruling) (old new : Shape) → p + 2 * planned < greatest → p ≡ shown.pages query.table query.snap → IsBounded would → Whole query p planned old → DoesCall call would shown old new → Costs p (lost_of call) old new
 does_call p planned query shown Step would old new small pages rule w does = step_costs p planned would query shown old new small pages rule w does
@@ -48,9 +46,6 @@ pub record AllCost (query : Query) (p planned lost : ℕ) (old new : Shape) : Ty
   pub both : leaf + other ≡ lost
   pub leaves : new.trace.leaves + ahead p new.joint ≤ old.trace.leaves + ahead p old.joint + leaf
   pub fewer : others new + rest_of p new ≤ others old + rest_of p old + other
-
-pub add_lost : (now mid was lost more : ℕ) → mid ≤ was + lost → now ≤ mid + more → now ≤ was + (lost + more)
-add_lost now mid was lost more h g = omega (arith, h, g)
 
 pub both_lost : (a b c d lost more : ℕ) → a + b ≡ lost → c + d ≡ more → (a + c) + (b + d) ≡ lost + more
 both_lost a b c d lost more e f = omega (arith, e, f)
@@ -71,9 +66,6 @@ all_cost p planned query shown (call ∷ calls) old new small pages w does =
     }
 
 -- AT OPENING
-
-pub same_less : (a b : ℕ) → a ≡ b → a ≤ b
-same_less a b e = omega (arith, e)
 
 -- what `open` tells of a retrieval of this strategy
 pub record Alone (strategy : Strategy) (query : Query) (shown : Shown) (v : Shape) : Type 0 where
@@ -117,12 +109,6 @@ opened_whole query shown v opens =
       sound = first_sound pages v.joint (ap (λ (j : Joint). j.counts) starts.joint) (ap (λ (j : Joint). j.building) starts.joint) (ap (λ (j : Joint). j.held) starts.joint) (ap (λ (j : Joint). j.list) starts.joint);
     }
 
-minus_less : (new whole taken all most : ℕ) → new ≡ whole - taken → whole ≡ all → all ≤ most → new ≤ most
-minus_less new whole taken all most n w h = omega (arith, n, w, h)
-
-from_first : (n : ℕ) → n - 0 ≡ n
-from_first n = omega arith
-
 pub opened_ahead : {s : Strategy} (query : Query) (shown : Shown) (v : Shape) (p : ℕ) → Alone s query shown v → ahead p v.joint ≤ p + 2 * length v.joint.plans
 opened_ahead query shown v p opens =
     let starts = starts_of query shown v opens in
@@ -130,9 +116,6 @@ opened_ahead query shown v p opens =
     let all : to_read p v.joint.ended (length v.joint.plans - v.joint.ended) ≡ to_read p 0 (length v.joint.plans) =
     ap (λ (n : ℕ). to_read p n (length v.joint.plans - n)) first ∙ ap (to_read p 0) (from_first (length v.joint.plans)) in
     minus_less (ahead p v.joint) (to_read p v.joint.ended (length v.joint.plans - v.joint.ended)) _ (to_read p 0 (length v.joint.plans)) (p + 2 * length v.joint.plans) refl all (all_scans p (length v.joint.plans))
-
-pub none_risen : (now n most : ℕ) → now ≡ min (0 + (n - n)) most → now ≡ 0
-none_risen now n most e = omega (arith, e)
 
 -- THE LAW
 

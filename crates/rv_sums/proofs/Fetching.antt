@@ -35,6 +35,7 @@ use Rattle.rv_bounded.specs.Unions.{UnionGives, UnionSteps, UnionStepsLost, Unio
 use Rattle.rv_sums.specs.Sums.{HasMet}
 use Rattle.rv_sums.specs.Unions.{UnionCalled, UnionLives}
 use Rattle.rv_sums.proofs.Uniting.{obeys_few}
+use Rattle.rv_cursor.proofs.Fewer.{add_few}
 
 -- The records that may still be fetched: as many as there are rows that meet a member while these are scanned, and then
 -- the keys left of the list.
@@ -196,15 +197,12 @@ lives_met : (calls : List Call) (rows : List ℕ) (shown : Shown) (old new : Uni
 lives_met [] rows shown old new lives all = subst (λ (u : Unioned). HasMet rows u shown) (sym lives) all
 lives_met (call ∷ calls) rows shown old new lives all = met_on rows shown lives.0 new lives.2.same (lives_met calls rows shown old lives.0 lives.1 all)
 
-calls_on : (a b c first last : ℕ) → b ≤ a + first → c ≤ b + last → c ≤ a + (first + last)
-calls_on a b c first last h k = omega (arith, h, k)
-
 no_calls : (a b : ℕ) → b ≡ a → b ≤ a + 0
 no_calls a b e = omega (arith, e)
 
 lives_few : (calls : List Call) (rows : List ℕ) (shown : Shown) (old new : Unioned) → UnionLives calls shown old new → HasMet rows old shown → new.trace.fetches + left rows new ≤ old.trace.fetches + left rows old + lost_by calls
 lives_few [] rows shown old new lives all = no_calls (old.trace.fetches + left rows old) (new.trace.fetches + left rows new) (ap (λ (u : Unioned). u.trace.fetches + left rows u) lives)
-lives_few (call ∷ calls) rows shown old new lives all = calls_on (old.trace.fetches + left rows old) (lives.0.trace.fetches + left rows lives.0) (new.trace.fetches + left rows new) (lost_by calls) (lost_of call) (lives_few calls rows shown old lives.0 lives.1 all) (call_few call shown rows lives.0 new lives.2 (lives_met (call ∷ calls) rows shown old new lives all))
+lives_few (call ∷ calls) rows shown old new lives all = add_few (old.trace.fetches + left rows old) (lives.0.trace.fetches + left rows lives.0) (new.trace.fetches + left rows new) (lost_by calls) (lost_of call) (lives_few calls rows shown old lives.0 lives.1 all) (call_few call shown rows lives.0 new lives.2 (lives_met (call ∷ calls) rows shown old new lives all))
 
 from_opening : (f l o k r lost : ℕ) → f + l ≤ o + k + lost → o ≡ 0 → k ≡ r → f ≤ r + lost
 from_opening f l o k r lost sum none most = omega (arith, sum, none, most)

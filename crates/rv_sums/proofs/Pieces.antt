@@ -7,21 +7,15 @@ use Rattle.rv_model.specs.declared.state.Offer.{Offer}
 use Rattle.rv_reader.specs.Shown.{Shown}
 use Rattle.rv_join.specs.declared.plan.PlanStep.{PlanStep}
 use Rattle.rv_join.specs.declared.plan.PlanStep.TheVariants.{Row, End, Working}
-use Rattle.rv_cursor.specs.Fetches.{lost_in, lost_of}
+use Rattle.rv_cursor.specs.Fetches.{lost_in}
 use Rattle.rv_cursor.specs.Moves.{Beside, BesideBy, EndsBeside, FetchMoves, LacksBeside, Move, Ruled, StepsBack, StepsBacks, StepsBeside, Turn, TurnMoves, TurnsOn}
 use Rattle.rv_cursor.specs.Moves.Move.{Front, Take, Give}
+use Rattle.rv_cursor.proofs.Fewer.{no_sum, lost_all, more_all}
 use Rattle.rv_cursor.proofs.Moving.{all_on}
 use Rattle.rv_sums.specs.Sums.{TakesGive, given_in, given_of, taken_in, taken_of}
 
 nothing : (would : ℕ → Facts → Ruling) (shown : Shown) (old new : Ruled) → new ≡ old → TakesGive 0 would shown old new
 nothing would shown old new same = record { moves = []; made = same; none = refl; pieces = omega arith }
-
-more_all : (all xs ys x : ℕ) → all ≡ xs + ys → all + x ≡ xs + x + ys
-more_all all xs ys x rest = omega (arith, rest)
-
-lost_all : (xs ys : List Move) → lost_in (xs ++ ys) ≡ lost_in xs + lost_in ys
-lost_all [] ys = sym (zero-add (lost_in ys))
-lost_all (x ∷ xs) ys = more_all (lost_in (xs ++ ys)) (lost_in xs) (lost_in ys) (lost_of x) (lost_all xs ys)
 
 taken_all : (xs ys : List Move) → taken_in (xs ++ ys) ≡ taken_in xs + taken_in ys
 taken_all [] ys = sym (zero-add (taken_in ys))
@@ -30,9 +24,6 @@ taken_all (x ∷ xs) ys = more_all (taken_in (xs ++ ys)) (taken_in xs) (taken_in
 given_all : (xs ys : List Move) → given_in (xs ++ ys) ≡ given_in xs + given_in ys
 given_all [] ys = sym (zero-add (given_in ys))
 given_all (x ∷ xs) ys = more_all (given_in (xs ++ ys)) (given_in xs) (given_in ys) (given_of x) (given_all xs ys)
-
-no_sum : (all xs ys : ℕ) → all ≡ xs + ys → xs ≡ 0 → ys ≡ 0 → all ≡ 0
-no_sum all xs ys sum first then = omega (arith, sum, first, then)
 
 pieces_on : (t t1 t2 g g1 g2 m n : ℕ) → t ≡ t1 + t2 → g ≡ g1 + g2 → t1 ≤ g1 + m → t2 ≤ g2 + n → t ≤ g + (n + m)
 pieces_on t t1 t2 g g1 g2 m n taken given first then = omega (arith, taken, given, first, then)

@@ -1,5 +1,5 @@
 -- What a plan over one FROM item has read and the effort that is left, over its moves.
-use Rattle.std.proofs.Common.{◌≡◌, ℕ, ◌+◌, ◌-◌, ◌<◌, ◌≤◌, List, [], ◌∷◌, length, Some, None, inl, inr, ap, sym, ◌∙◌, subst, arith}
+use Rattle.std.proofs.Common.{◌≡◌, ℕ, ◌+◌, ◌-◌, ◌<◌, ◌≤◌, List, [], ◌∷◌, Some, None, inl, inr, ap, subst, arith}
 use Rattle.rv_judge.specs.declared.counting.Counts.{Counts}
 use Rattle.rv_judge.specs.declared.judging.Facts.{Facts}
 use Rattle.rv_judge.specs.Counting.{raised, reads}
@@ -12,16 +12,16 @@ use Rattle.rv_access.specs.declared.access.Access.{Access}
 use Rattle.rv_join.specs.Alone.{CallsOnce, IsAlone, PlanSpends, Spends, plan_effort, plan_life}
 use Rattle.rv_join.specs.Pieces.{waiting}
 use Rattle.rv_join.specs.Plans.{Planned, plan_trace}
-use Rattle.rv_join.specs.declared.places.Asked.{Asked}
 use Rattle.rv_join.specs.declared.plan.PlanStep.{PlanStep}
 use Rattle.rv_join.specs.declared.plan.PlanStep.TheVariants.{Row, End, Working}
 use Rattle.rv_cursor.specs.Fetches.{lost_in, lost_of}
-use Rattle.rv_cursor.specs.Left.{seen_at, seen_by}
+use Rattle.rv_cursor.specs.Left.{seen_by}
 use Rattle.rv_cursor.specs.Moves.{Move, MovesBy, MovesByAll, Ruled, StepsFront, TakesOut, ruled}
 use Rattle.rv_cursor.specs.Moves.Move.{Front, Lost, Take, Give}
 use Rattle.rv_cursor.proofs.Fewer.{moves_asked, still_alone}
 use Rattle.rv_core.specs.Obeying.{BeginsWithin}
-use Rattle.rv_core.specs.Short.{CallMoves, CallsMove, Held, lost_by}
+use Rattle.rv_core.specs.Short.{CallsMove, Held, lost_by}
+use Rattle.rv_core.proofs.Shorts.{sight, sights_stay, stays_alone}
 use Rattle.rv_bounded.specs.Bounds.{reads_told}
 use Rattle.rv_sums.specs.Sums.{given_by, given_in, given_of, spent, taken_by, taken_in, taken_of}
 use Rattle.rv_sums.proofs.Reading.{One, access_one, piece_one, rise, spends_rise, tries_rise}
@@ -116,24 +116,6 @@ moves_spend (move ∷ moves) would shown old new made one =
     let first = moves_spend moves would shown old mid made.1 one in
     let then = move_spends move would shown mid new made.2 (still_alone old.plan mid.plan (moves_asked moves would shown old mid made.1) one) in
     sums_on (spent shown old.plan) (spent shown mid.plan) (spent shown new.plan) (given_in moves) (lost_in moves) (taken_in moves) (given_of move) (lost_of move) (taken_of move) first then
-
--- what a cursor sees
-abbrev sight : Held → Shown
-sight h = seen_by h.store h.cursor
-
-sight_stays : (moves : List Move) (old new : Held) → CallMoves moves old new → sight new ≡ sight old
-sight_stays moves old new call = call.sees ∙ (λ i. seen_at old.store (call.same.snap i) (call.same.frozen i))
-
-sights_stay : (calls : List (List Move)) (old new : Held) → CallsMove calls old new → sight new ≡ sight old
-sights_stay [] old new same = ap sight same
-sights_stay (moves ∷ calls) old new made = sight_stays moves made.0 new made.2 ∙ sights_stay calls old made.0 made.1
-
-asked_stays : (moves : List Move) (old new : Held) → CallMoves moves old new → IsAlone old.cursor.plan → IsAlone new.cursor.plan
-asked_stays moves old new call one = subst (λ (a : Asked). length a.items ≡ 1) (sym call.same.asked) one
-
-stays_alone : (calls : List (List Move)) (old new : Held) → CallsMove calls old new → IsAlone old.cursor.plan → IsAlone new.cursor.plan
-stays_alone [] old new same one = subst (λ (h : Held). IsAlone h.cursor.plan) (sym same) one
-stays_alone (moves ∷ calls) old new made one = asked_stays moves made.0 new made.2 (stays_alone calls old made.0 made.1 one)
 
 calls_spend : (calls : List (List Move)) (old new : Held) → CallsMove calls old new → IsAlone old.cursor.plan → spent (sight old) new.cursor.plan + given_by calls ≤ spent (sight old) old.cursor.plan + lost_by calls + taken_by calls
 calls_spend [] old new same one = none_sum (spent (sight old) old.cursor.plan) (spent (sight old) new.cursor.plan) (ap (λ (h : Held). spent (sight old) h.cursor.plan) same)

@@ -14,7 +14,7 @@ use Rattle.skew_judges.specs.Guard.{GuardedAreBounded, Keeps, goes_on, held_back
 pub parts_late : (n : ℕ) → parts (suc (suc (suc n))) ≡ 2 * 2 ^ suc (suc (suc n))
 parts_late n = grind (arith, nat_tests)
 
-parts_some : (scan : ℕ) → 0 < parts scan
+pub parts_some : (scan : ℕ) → 0 < parts scan
 parts_some zero = omega arith
 parts_some (suc zero) = omega arith
 parts_some (suc (suc zero)) = omega arith
