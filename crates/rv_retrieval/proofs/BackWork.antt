@@ -3,6 +3,7 @@ use Rattle.std.proofs.Common.{◌≡◌, ℕ, ◌+◌, ◌-◌, ◌<◌, ◌≤�
 use Rattle.std.specs.Prelude.{if◌then◌else◌}
 use Rattle.std.proofs.lemmas.List.{drop_more, length-append, length-map}
 use Rattle.std.proofs.lemmas.List.Sorted.{length_permutation}
+use Rattle.std.specs.Cmp.{first_so}
 use Rattle.rv_value.proofs.Lists.{filter_length}
 use Rattle.rv_value.specs.declared.record.IndexEntry.{IndexEntry}
 use Rattle.rv_judge.specs.declared.counting.Counts.{Counts}
@@ -25,13 +26,13 @@ use Rattle.rv_retrieval.specs.Shape.{lending_of}
 
 -- The entries ahead.
 
-entries_sum : (plans : List ScanPlan) (shown : Shown) (snap : ℕ) → entries_of_scans plans None shown snap ≡ entries_planned plans shown snap
-entries_sum [] shown snap = refl
-entries_sum (p ∷ plans) shown snap = refl
+pub entries_first : (plans : List ScanPlan) (shown : Shown) (snap : ℕ) → entries_of_scans plans None shown snap ≡ entries_planned plans shown snap
+entries_first [] shown snap = refl
+entries_first (p ∷ plans) shown snap = refl
 
 pub entries_split : (j : Joint) (shown : Shown) → j.ended < length j.plans → entries_ahead j shown ≡ length (to_sieve j shown) + entries_of_scans (drop (j.ended + 1) j.plans) None shown j.snap
 entries_split j shown lt =
-    ap (λ (ps : List ScanPlan). entries_of_scans ps j.place shown j.snap) (drop_more j.plans j.ended no_plan lt) ∙ ap (λ (n : ℕ). length (to_sieve j shown) + n) (sym (entries_sum (drop (j.ended + 1) j.plans) shown j.snap))
+    ap (λ (ps : List ScanPlan). entries_of_scans ps j.place shown j.snap) (drop_more j.plans j.ended no_plan lt) ∙ ap (λ (n : ℕ). length (to_sieve j shown) + n) (sym (entries_first (drop (j.ended + 1) j.plans) shown j.snap))
 
 pub kept_few : (j : Joint) (entries : List IndexEntry) → length (kept_of j entries) ≤ length entries
 kept_few j entries =
@@ -127,9 +128,6 @@ take_spends old new shown borrowed before after taken t k e = by (reads_leaf old
         last : (b : Bool) → (b && false) ≡ true → true ≡ false
         last b r = grind arith
 
-    first : (b c : Bool) → (b && c) ≡ true → b ≡ true
-    first b c r = grind arith
-
     has : (h : Option Chunk) (entries : List IndexEntry) → HasEntries h entries → to_read h ≡ 0
     has None entries i = absurd i
     has (Some c) entries i = refl
@@ -145,7 +143,7 @@ take_spends old new shown borrowed before after taken t k e = by (reads_leaf old
         let said = ap reads counted in
         let work = ap (λ (j : Joint). back_work j borrowed shown) t.same in
         let was = ap to_read (none old.held (under_way old) r) in
-        let is = held taken k (first (under_way old) (not (is_some old.held)) r) in
+        let is = held taken k (first_so (under_way old) (not (is_some old.held)) r) in
         omega arith
     by false r =
         let counted : after ≡ before = e ∙ ap (λ (b : Bool). if b then leaf_read before else before) r in

@@ -1,6 +1,7 @@
 -- A retrieval before its first step.
-use Rattle.std.proofs.Common.{◌≡◌, ℕ, ◌+◌, ◌<◌, List, [], length, Bool, true, false, not, ◌&&◌, ◌||◌, refl, ap, sym, ◌∙◌, arith, subst, inl}
-use Rattle.std.proofs.lemmas.Bool.{and_from}
+use Rattle.std.proofs.Common.{◌≡◌, ℕ, ◌+◌, ◌<◌, List, [], length, Bool, true, false, not, refl, ap, sym, ◌∙◌, arith, subst, inl}
+use Rattle.std.proofs.lemmas.Bool.{and_from, or_right}
+use Rattle.std.specs.Cmp.{second_so}
 use Rattle.rv_final.proofs.Owed.{all_qualifying, row_there}
 use Rattle.rv_value.specs.declared.record.Record.{Record}
 use Rattle.rv_keys.specs.Keys.{has_key}
@@ -48,10 +49,7 @@ first_sorted Sorted false h = refl
 first_sorted IndexOnly b h = absurd (cc)
 
 index_only_led : (s : Strategy) → is_index_only s ≡ true → is_led s ≡ true
-index_only_led s h = out (is_sorted s) (is_index_only s) h
-  where
-    out : (a b : Bool) → b ≡ true → (a || b) ≡ true
-    out a b h = grind arith
+index_only_led s h = or_right (is_sorted s) (is_index_only s) h
 
 -- what is known of a retrieval that was made of its parts
 pub record Fresh (v : Shape) (scans : List ScanPlan) (cursor opening : ℕ) (some : Bool) : Type 0 where
@@ -85,13 +83,10 @@ opened_fits v scans cursor opening some shown n j o = record {
   unbegun = λ h. record { keys = n.at; pages = n.pages };
   listed = λ h. absurd (let bad = first_no_keys v.strategy some (sym (source_first v scans cursor opening some n) ∙ h) in cc);
   room = λ h. let z = ap length n.delivered in omega arith;
-  remembered = λ h k q. o.all (index_only_led v.strategy (right (is_building v.control) (is_index_only v.strategy) h)) k q ∙ sym (none_delivered v scans cursor opening some k n);
+  remembered = λ h k q. o.all (index_only_led v.strategy (second_so (is_building v.control) (is_index_only v.strategy) h)) k q ∙ sym (none_delivered v scans cursor opening some k n);
   ordered = o.ordered;
   sorted = λ h. inl (source_first v scans cursor opening some n ∙ first_sorted v.strategy some h);
 }
-  where
-    right : (a b : Bool) → (a && b) ≡ true → b ≡ true
-    right a b h = grind arith
 
 pub opened_rest : (v : Shape) (scans : List ScanPlan) (cursor opening : ℕ) (some : Bool) (shown : Shown) → Fresh v scans cursor opening some → Opens v.query v.strategy scans v.front shown → rest v shown ≡ qualifying v.query.only (rows_of v shown)
 opened_rest v scans cursor opening some shown n o = same_rest v.query.only (rows_of v shown) (λ k. true) (left_at (source v) v shown) (λ k q. ap (λ (x : Source). left_at x v shown k) (source_first v scans cursor opening some n) ∙ go v.strategy some refl k q) ∙ all_qualifying v.query.only (rows_of v shown)

@@ -1,13 +1,13 @@
 -- What is chosen among a query's indexes can be opened.
-use Rattle.std.proofs.Common.{Box, ◌≡◌, ℕ, zero, suc, ◌<◌, ◌≤◌, ◌⊎◌, List, [], ◌∷◌, length, Bool, true, false, not, ◌&&◌, ◌||◌, refl, ap, sym, ◌∙◌, arith, subst, Some, None, Option, nat_eq, nat_lt, inl, inr, map, filter, cond, Result, Ok, Err, IfOk}
+use Rattle.std.proofs.Common.{Box, ◌≡◌, ℕ, zero, suc, ◌<◌, ◌≤◌, ◌⊎◌, List, [], ◌∷◌, length, Bool, true, false, not, ◌&&◌, ◌||◌, refl, ap, sym, ◌∙◌, arith, subst, Some, None, Option, nat_eq, inl, inr, map, filter, cond, Result, Ok, Err, IfOk}
 use Rattle.std.specs.declared.alloc.Global.{Global}
-use Rattle.std.proofs.lemmas.Bool.{cases_Bool}
+use Rattle.std.proofs.lemmas.Bool.{cases_Bool, lt-ltb}
 use Rattle.std.proofs.lemmas.Bool.Decides.{nat_tests}
 use Rattle.std.proofs.lemmas.List.Quantifiers.{position-Some}
 use Rattle.std.proofs.lemmas.List.{length-map}
 use Rattle.std.proofs.lemmas.List.Sorted.{All-permutation, length_permutation}
 use Rattle.std.specs.List.{AllByRecursion, list_any, starts_with, position, position_or_len}
-use Rattle.rv_value.proofs.Tests.{no_way}
+use Rattle.rv_value.proofs.Tests.{no_way, same_number}
 use Rattle.rv_value.proofs.Lists.{all_at, all_filter, filter_length, from_all, to_all}
 use Rattle.rv_value.specs.declared.record.IndexEntry.{IndexEntry}
 use Rattle.rv_value.specs.declared.range.Range.{Range}
@@ -123,10 +123,7 @@ found_within p (x ∷ xs) h = by (p x) refl (λ m. found_within p xs m)
     by false e f = let more : list_any p xs ≡ true = ap (λ (b : Bool). b || list_any p xs) (sym e) ∙ h in let l = f more in rw e (omega arith)
 
 found_some : {X : Type 0} (p : X → Bool) (xs : List X) → list_any p xs ≡ true → position p xs ≡ Some (position_or_len p xs)
-found_some p xs h = ap (λ (b : Bool). cond b (Some (position_or_len p xs)) None) (is_less (position_or_len p xs) (length xs) (found_within p xs h))
-  where
-    is_less : (a b : ℕ) → a < b → nat_lt a b ≡ true
-    is_less a b l = grind (arith, nat_tests)
+found_some p xs h = ap (λ (b : Bool). cond b (Some (position_or_len p xs)) None) (lt-ltb (position_or_len p xs) (length xs) (found_within p xs h))
 
 no_columns : (xs : List ℕ) → nat_eq (length xs) 0 ≡ true → xs ≡ []
 no_columns [] e = refl
@@ -259,18 +256,12 @@ no_one i background (inr (inr e)) o = absurd (let bad : EachBut e.0 ≡ One i = 
 pub one_background : (only : List (List Atom)) (order : List ℕ) (goal : Goal2) (cs : List Candidate) (choice : Choice) (scans : List ScanPlan) (i : ℕ) → IsChosen order goal cs choice → AreScans only cs choice.background scans → choice.background ≡ One i → (has_scans scans ≡ true) × (is_background (first_of choice.strategy (has_scans scans)) ≡ true)
 one_background only order goal cs choice scans i chosen s one = go (order_index order cs) chosen.short chosen.sufficient chosen.restricted chosen.least_short chosen.rules
   where
-    itself : (n : ℕ) → nat_eq n n ≡ true
-    itself n = grind (arith, nat_tests)
-
-    is_less : (a b : ℕ) → a < b → nat_lt a b ≡ true
-    is_less a b l = grind (arith, nat_tests)
-
     some : (at : ℕ) → at < length cs → choice.background ≡ One (candidate_at cs at).index → has_scans scans ≡ true
     some at l e =
         let same = length_permutation (map (plan_of only) (filter (is_scanned choice.background) cs)) scans s.these in
         let mapped = length-map (filter (is_scanned choice.background) cs) (plan_of only) in
-        let found = filter_some (is_scanned choice.background) cs at l (ap (λ (b : Background). is_scanned b (candidate_at cs at)) e ∙ itself (candidate_at cs at).index) in
-        is_less 0 (length scans) (omega arith)
+        let found = filter_some (is_scanned choice.background) cs at l (ap (λ (b : Background). is_scanned b (candidate_at cs at)) e ∙ same_number (candidate_at cs at).index) in
+        lt-ltb 0 (length scans) (omega arith)
 
     sorted : (b : Bool) → choice.strategy ≡ Sorted → b ≡ true → is_background (first_of choice.strategy b) ≡ true
     sorted b e h = ap (λ (x : Strategy). is_background (first_of x b)) e ∙ ap (λ (x : Bool). is_background (first_of Sorted x)) h

@@ -3,6 +3,7 @@ use Rattle.std.proofs.Common.{◌≡◌, ℕ, ◌<◌, ◌≤◌, List, [], ◌�
 use Rattle.std.specs.Prelude.{if◌then◌else◌}
 use Rattle.std.specs.List.{list_all}
 use Rattle.std.proofs.lemmas.List.{length-drop}
+use Rattle.std.specs.Cmp.{first_so, second_so}
 use Rattle.rv_judge.specs.declared.events.Strategy.{Strategy}
 use Rattle.rv_judge.specs.declared.events.Strategy.TheVariants.{Table, BackgroundOnly, FastFirst, Sorted, IndexOnly, Union}
 use Rattle.rv_judge.specs.declared.events.Control.{Control}
@@ -55,19 +56,13 @@ allowed c rows = list_all (λ (r : Row). not (r.at c) || may_lead c (r.next c)) 
 
 leads_by : (rows : List Row) (s : Strategy) (c : Control) (h : Happening) → allowed c rows ≡ true → may_lead c c ≡ true → may_lead c (next_by rows s c h) ≡ true
 leads_by [] s c h a l = l
-leads_by (r ∷ rows) s c h a l = pick (r.next c) (next_by rows s c h) (r.at c) (r.under s) (r.upon h) (left_true _ _ a) (leads_by rows s c h (right_true _ _ a) l)
+leads_by (r ∷ rows) s c h a l = pick (r.next c) (next_by rows s c h) (r.at c) (r.under s) (r.upon h) (first_so _ _ a) (leads_by rows s c h (second_so _ _ a) l)
   where
     pick : (x y : Control) (at under upon : Bool) → (not at || may_lead c x) ≡ true → may_lead c y ≡ true → may_lead c (if at && under && upon then x else y) ≡ true
     pick x y true true true a l = a
     pick x y true true false a l = l
     pick x y true false upon a l = l
     pick x y false under upon a l = l
-
-    left_true : (a b : Bool) → (a && b) ≡ true → a ≡ true
-    left_true a b h = grind arith
-
-    right_true : (a b : Bool) → (a && b) ≡ true → b ≡ true
-    right_true a b h = grind arith
 
 pub goes_lower : (s : Strategy) (c : Control) (h : Happening) → may_lead c (next_control s c h) ≡ true
 goes_lower s Building h = refl

@@ -1,6 +1,7 @@
 -- Rows that are remembered, and the foreground's scan.
 use Rattle.std.proofs.Common.{◌≡◌, ℕ, ◌<◌, ◌⊎◌, List, [], length, Bool, true, false, not, ◌&&◌, ◌||◌, refl, ap, sym, ◌∙◌, arith, subst, Option, nat_eq, inl, inr, take, Result, Ok, Err, IfOk, OnErr}
 use Rattle.std.specs.Cmp.{first_so, second_so}
+use Rattle.std.proofs.lemmas.Bool.{and_right, not-true}
 use Rattle.rv_value.specs.declared.record.Record.{Record}
 use Rattle.rv_rows.specs.Rows.{Ascend}
 use Rattle.rv_restrict.specs.declared.atom.Atom.{Atom}
@@ -51,10 +52,7 @@ source_at : (v : Shape) (c : Control) (s : Strategy) → v.control ≡ c → v.s
 source_at v c s ec es = ap (λ (x : Control). source_of x v.strategy) ec ∙ ap (source_of c) es
 
 not_index_only : (v : Shape) (c : Control) (s : Strategy) → v.strategy ≡ s → is_index_only s ≡ false → (is_building c && is_index_only v.strategy) ≡ true → true ≡ false
-not_index_only v c s e n b = sym b ∙ none (is_building c) (is_index_only v.strategy) (ap is_index_only e ∙ n)
-  where
-    none : (x y : Bool) → y ≡ false → (x && y) ≡ false
-    none x y h = grind arith
+not_index_only v c s e n b = sym b ∙ and_right (is_building c) (is_index_only v.strategy) (ap is_index_only e ∙ n)
 
 borrowed_fits : (v : Shape) (b : ℕ) (d : List ℕ) (c : Control) (t : Trace) (shown : Shown) → v.control ≡ Building → v.strategy ≡ FastFirst → source_of c v.strategy ≡ Undelivered → (is_building c ≡ true → length d < 1024) → RetrievalFits v shown → RetrievalFits (record v { borrowed = b; delivered = d; control = c; trace = t }) shown
 borrowed_fits v b d c t shown ec es u room f = record {
@@ -208,10 +206,7 @@ remember_agree v new d shown r a agree m n q = m.others n q ∙ ap (λ (b : Bool
 pub fresh_row : (v : Shape) (new : Front) (shown : Shown) (r : Record) → RetrievalFits v shown → (is_building v.control && is_index_only v.strategy) ≡ true → StepMarks v.query.need v.query.only (rows_of v shown) (Found r) (front_left v.front (front_entries v shown)) (front_left new (front_entries v shown)) → has_key r.row.0 v.delivered ≡ false
 fresh_row v new shown r f b m =
     let q = told_by v.query.only (rows_of v shown) r.row.0 m.taken f.ascend m.there ∙ m.qualifies in
-    turned (has_key r.row.0 v.delivered) (sym (f.remembered b r.row.0 q) ∙ m.left)
-  where
-    turned : (x : Bool) → not x ≡ true → x ≡ false
-    turned x h = grind arith
+    not-true (has_key r.row.0 v.delivered) (sym (f.remembered b r.row.0 q) ∙ m.left)
 
 -- The steps of the foreground's scan, in the words of the calls.
 

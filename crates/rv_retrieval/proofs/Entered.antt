@@ -1,7 +1,8 @@
 -- The entries of a table's rows, and what a scan of them looks through.
 use Rattle.std.proofs.Common.{◌≡◌, ℕ, List, [], ◌∷◌, filter, map, drop, Bool, true, false, cond, ◌&&◌, ◌||◌, refl, ap, sym, ◌∙◌, arith, subst, Some, None, Option, nat_eq, zero, suc, inl, inr}
 use Rattle.std.specs.List.{list_any, AllByRecursion, cons_option}
-use Rattle.std.proofs.lemmas.Bool.{cases_Bool}
+use Rattle.std.proofs.lemmas.Bool.{cases_Bool, or_right}
+use Rattle.std.specs.Cmp.{second_so}
 use Rattle.rv_reader.proofs.Rows.{found_row}
 use Rattle.rv_value.proofs.Lists.{all_drop, all_filter}
 use Rattle.rv_value.specs.declared.record.Record.{Record}
@@ -69,12 +70,12 @@ pub left_stands : (along : Along) (columns : List ℕ) (rows : List Record) (ent
 left_stands along columns rows entries f a = subst (AreOf columns rows) (sym f.1) (all_drop (EntryOf columns rows) f.0 (run entries along.range) (all_filter (EntryOf columns rows) (is_in along.range) entries a))
 
 -- records fetched
-fetched_has : (columns : List ℕ) (rows : List Record) (es : List IndexEntry) (n : ℕ) → AreOf columns rows es → has_row n (fetched rows es) ≡ has_entry n es
-fetched_has columns rows [] n a = refl
-fetched_has columns rows (e ∷ es) n a =
+pub fetched_open : (columns : List ℕ) (rows : List Record) (es : List IndexEntry) (n : ℕ) → AreOf columns rows es → has_row n (fetched rows es) ≡ has_entry n es
+fetched_open columns rows [] n a = refl
+fetched_open columns rows (e ∷ es) n a =
     let o = a.0 in
     let is = found_row rows e.row.0 o.row o.there in
-    subst (λ (f : Option Record). has_row n (cons_option f (fetched rows es)) ≡ (nat_eq n e.row.0 || has_entry n es)) (sym o.there) (ap (λ (m : ℕ). nat_eq n m || has_row n (fetched rows es)) is ∙ ap (λ (b : Bool). nat_eq n e.row.0 || b) (fetched_has columns rows es n a.1))
+    subst (λ (f : Option Record). has_row n (cons_option f (fetched rows es)) ≡ (nat_eq n e.row.0 || has_entry n es)) (sym o.there) (ap (λ (m : ℕ). nat_eq n m || has_row n (fetched rows es)) is ∙ ap (λ (b : Bool). nat_eq n e.row.0 || b) (fetched_open columns rows es n a.1))
 
 fetched_stand : (need : List ℕ) (only : List (List Atom)) (columns : List ℕ) (rows : List Record) (es : List IndexEntry) → AreOf columns rows es → AllByRecursion (StandsFor need only rows) (fetched rows es)
 fetched_stand need only columns rows [] a = tt
@@ -91,18 +92,15 @@ fetched_apart columns rows [] a d = tt
 fetched_apart columns rows (e ∷ es) a d =
     let o = a.0 in
     let is = found_row rows e.row.0 o.row o.there in
-    rw o.there (ap (λ (m : ℕ). has_row m (fetched rows es)) is ∙ fetched_has columns rows es e.row.0 a.1 ∙ d.0, fetched_apart columns rows es a.1 d.1)
+    rw o.there (ap (λ (m : ℕ). has_row m (fetched rows es)) is ∙ fetched_open columns rows es e.row.0 a.1 ∙ d.0, fetched_apart columns rows es a.1 d.1)
 
 pub fetched_looks : (need : List ℕ) (only : List (List Atom)) (columns : List ℕ) (rows : List Record) (es : List IndexEntry) → AreOf columns rows es → Apart es → Looks need only rows (fetched rows es)
 fetched_looks need only columns rows es a d = record { each = fetched_stand need only columns rows es a; apart = fetched_apart columns rows es a d }
 
-pub fetched_open : (columns : List ℕ) (rows : List Record) (es : List IndexEntry) (n : ℕ) → AreOf columns rows es → has_row n (fetched rows es) ≡ has_entry n es
-fetched_open columns rows es n a = fetched_has columns rows es n a
-
 -- records told by the index
-told_has : (columns : List ℕ) (es : List IndexEntry) (n : ℕ) → has_row n (map (told columns) es) ≡ has_entry n es
-told_has columns [] n = refl
-told_has columns (e ∷ es) n = ap (λ (b : Bool). nat_eq n e.row.0 || b) (told_has columns es n)
+pub told_open : (columns : List ℕ) (es : List IndexEntry) (n : ℕ) → has_row n (map (told columns) es) ≡ has_entry n es
+told_open columns [] n = refl
+told_open columns (e ∷ es) n = ap (λ (b : Bool). nat_eq n e.row.0 || b) (told_open columns es n)
 
 -- the index has the columns needed
 abbrev pub Covering : List ℕ → List ℕ → Type 0
@@ -124,13 +122,10 @@ told_stand need only columns rows (e ∷ es) names covering a =
 
 told_apart : (columns : List ℕ) (es : List IndexEntry) → Apart es → RowsApart (map (told columns) es)
 told_apart columns [] d = tt
-told_apart columns (e ∷ es) d = (told_has columns es e.row.0 ∙ d.0, told_apart columns es d.1)
+told_apart columns (e ∷ es) d = (told_open columns es e.row.0 ∙ d.0, told_apart columns es d.1)
 
 pub told_looks : (need : List ℕ) (only : List (List Atom)) (columns : List ℕ) (rows : List Record) (es : List IndexEntry) → NamesThese columns only → Covering columns need → AreOf columns rows es → Apart es → Looks need only rows (map (told columns) es)
 told_looks need only columns rows es names covering a d = record { each = told_stand need only columns rows es names covering a; apart = told_apart columns es d }
-
-pub told_open : (columns : List ℕ) (es : List IndexEntry) (n : ℕ) → has_row n (map (told columns) es) ≡ has_entry n es
-told_open columns es n = told_has columns es n
 
 -- a row that qualifies has an entry that passes each test that its own entry passes
 any_filter : (p : IndexEntry → Bool) (n : ℕ) (es : List IndexEntry) → has_entry n (filter p es) ≡ list_any (λ (e : IndexEntry). nat_eq n e.row.0 && p e) es
@@ -150,21 +145,15 @@ any_mapped : (p : IndexEntry → Bool) (columns : List ℕ) (only : List (List A
 any_mapped p columns only n [] h q = q
 any_mapped p columns only n (r ∷ rows) h q =
     elim (cases_Bool (nat_eq n r.row.0 && qualifies only r.values)) [
-      | inl here ↦ first (nat_eq n r.row.0) (qualifies only r.values) (p (entry_of columns r)) (list_any (λ (e : IndexEntry). nat_eq n e.row.0 && p e) (map (entry_of columns) rows)) here (h r (second (nat_eq n r.row.0) (qualifies only r.values) here))
-      | inr other ↦ later (nat_eq n r.row.0 && p (entry_of columns r)) (list_any (λ (e : IndexEntry). nat_eq n e.row.0 && p e) (map (entry_of columns) rows)) (any_mapped p columns only n rows h (rest (nat_eq n r.row.0 && qualifies only r.values) (qualifies_at only rows n) other q))
+      | inl here ↦ first (nat_eq n r.row.0) (qualifies only r.values) (p (entry_of columns r)) (list_any (λ (e : IndexEntry). nat_eq n e.row.0 && p e) (map (entry_of columns) rows)) here (h r (second_so (nat_eq n r.row.0) (qualifies only r.values) here))
+      | inr other ↦ or_right (nat_eq n r.row.0 && p (entry_of columns r)) (list_any (λ (e : IndexEntry). nat_eq n e.row.0 && p e) (map (entry_of columns) rows)) (any_mapped p columns only n rows h (rest (nat_eq n r.row.0 && qualifies only r.values) (qualifies_at only rows n) other q))
     ]
   where
-    second : (a b : Bool) → (a && b) ≡ true → b ≡ true
-    second a b h = grind arith
-
     first : (a b c d : Bool) → (a && b) ≡ true → c ≡ true → ((a && c) || d) ≡ true
     first a b c d h i = grind arith
 
     rest : (a b : Bool) → a ≡ false → (a || b) ≡ true → b ≡ true
     rest a b h i = grind arith
-
-    later : (a b : Bool) → b ≡ true → (a || b) ≡ true
-    later a b h = grind arith
 
 pub entered : (p : IndexEntry → Bool) (columns : List ℕ) (only : List (List Atom)) (n : ℕ) (rows : List Record) → ((r : Record) → qualifies only r.values ≡ true → p (entry_of columns r) ≡ true) → qualifies_at only rows n ≡ true → has_entry n (filter p (entries_of columns rows)) ≡ true
 entered p columns only n rows h q = any_filter p n (entries_of columns rows) ∙ any_sorted (λ (e : IndexEntry). nat_eq n e.row.0 && p e) (map (entry_of columns) rows) ∙ any_mapped p columns only n rows h q

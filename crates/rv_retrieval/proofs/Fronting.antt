@@ -1,6 +1,7 @@
 -- A step of the foreground's scan, said of each row number.
 use Rattle.std.proofs.Common.{◌≡◌, ℕ, ◌⊎◌, List, map, Bool, true, false, not, ◌&&◌, ◌||◌, refl, ap, sym, ◌∙◌, arith, subst, Some, None, Option, inl, inr, Result, Ok, Err, IfOk}
 use Rattle.std.specs.Prelude.{if◌then◌else◌}
+use Rattle.std.proofs.lemmas.Bool.{not-false}
 use Rattle.rv_value.specs.declared.record.Record.{Record}
 use Rattle.rv_judge.specs.declared.counting.Counts.{Counts}
 use Rattle.rv_keylist.specs.Keys.{may_key}
@@ -152,10 +153,7 @@ walk_reads (Ok s) v shown o l c d f led hides keys (inl one) =
   where
     unhidden : (l : Option Listed) (n : ℕ) → is_unlisted l n ≡ false → may (keys_of l) n ≡ true
     unhidden None n h = refl
-    unhidden (Some x) n h = back (may_key n x.keys) h
-      where
-        back : (b : Bool) → not b ≡ false → b ≡ true
-        back b h = grind arith
+    unhidden (Some x) n h = not-false (may_key n x.keys) h
 
     listed : (n : ℕ) → is_sorted v.strategy ≡ true → skips (record { delivered = None; list = o }) n ≡ false → may v.joint.list n ≡ true
     listed n h clear =

@@ -6,7 +6,7 @@ use Rattle.std.specs.Cmp.{tied_itself}
 use Rattle.std.specs.Ordering.{is_lt, ordering_then}
 use Rattle.std.specs.declared.cmp.Ordering.{Ordering}
 use Rattle.std.specs.declared.cmp.Ordering.TheVariants.{Less, Equal, Greater}
-use Rattle.std.proofs.lemmas.Bool.{cases_Bool, and_parts, not_from_false}
+use Rattle.std.proofs.lemmas.Bool.{cases_Bool, and_parts, not_from_false, eqb-true, or_left, or_right, and_from}
 use Rattle.std.proofs.lemmas.Bool.Decides.{nat_tests}
 use Rattle.rv_retrieval.proofs.Controls.{sorted_is_led}
 use Rattle.rv_reader.proofs.Rows.{found_row}
@@ -84,13 +84,10 @@ entry_find P columns rows n [] a all h = absurd (cc)
 entry_find P columns rows n (e ∷ es) a all h =
     let parts = and_parts (P e) (list_all P es) all in
     elim (cases_Bool (nat_eq n e.row.0)) [
-      | inl here ↦ (e, a.0, parts.0, number n e.row.0 here)
+      | inl here ↦ (e, a.0, parts.0, eqb-true n e.row.0 here)
       | inr other ↦ entry_find P columns rows n es a.1 parts.1 (later (nat_eq n e.row.0) (has_entry n es) other h)
     ]
   where
-    number : (a b : ℕ) → nat_eq a b ≡ true → a ≡ b
-    number a b h = grind (arith, nat_tests)
-
     later : (a b : Bool) → a ≡ false → (a || b) ≡ true → b ≡ true
     later a b h i = grind arith
 
@@ -114,12 +111,6 @@ order_agrees (c ∷ order) x y a =
   where
     itself : (n : ℕ) → (n == n) ≡ true
     itself n = grind (arith, nat_tests)
-
-    or_left : (a b : Bool) → a ≡ true → (a || b) ≡ true
-    or_left a b h = grind arith
-
-    or_right : (a b : Bool) → b ≡ true → (a || b) ≡ true
-    or_right a b h = grind arith
 
 record Leads (need order columns : List ℕ) : Type 0 where
   needs : (c : ℕ) → stands_among order c ≡ true → stands_among need c ≡ true
@@ -151,7 +142,7 @@ least_of need order columns only rows skip (f ∷ es) (x ∷ xs) more r y n l up
           let told : is_lt (values_cmp (order_of order y) (order_of order stands.row)) ≡ false =
           elim (cases_Bool (nat_eq n f.row.0)) [
             | inl here ↦
-                let same : y ≡ stands.row = same_row rows n x.row.0 y stands.row (number n f.row.0 here ∙ sym items.0) there stands.there in
+                let same : y ≡ stands.row = same_row rows n x.row.0 y stands.row (eqb-true n f.row.0 here ∙ sym items.0) there stands.there in
                 ap (λ (z : Record). is_lt (values_cmp (order_of order z) (order_of order stands.row))) same ∙ ap is_lt (tied_itself values_cmp_total (order_of order stands.row))
             | inr other ↦
                 let found = entry_find (comes_before f) columns rows n es a.1 up.0 (later (nat_eq n f.row.0) (has_entry n es) other h) in
@@ -164,7 +155,7 @@ least_of need order columns only rows skip (f ∷ es) (x ∷ xs) more r y n l up
       | false ↦ λ d e.
           elim (cases_Bool (nat_eq n f.row.0)) [
             | inl here ↦ absurd (
-                let at : n ≡ x.row.0 = number n f.row.0 here ∙ sym items.0 in
+                let at : n ≡ x.row.0 = eqb-true n f.row.0 here ∙ sym items.0 in
                 let same : y ≡ stands.row = same_row rows n x.row.0 y stands.row at there stands.there in
                 let passes : qualifies only x.values ≡ true = stands.same ∙ ap (λ (z : Record). qualifies only z.values) (sym same) ∙ q in
                 let unskipped_row : skips skip x.row.0 ≡ false = ap (skips skip) (sym at) ∙ s in
@@ -173,9 +164,6 @@ least_of need order columns only rows skip (f ∷ es) (x ∷ xs) more r y n l up
           ]
     ] refl e
   where
-    number : (a b : ℕ) → nat_eq a b ≡ true → a ≡ b
-    number a b h = grind (arith, nat_tests)
-
     later : (a b : Bool) → a ≡ false → (a || b) ≡ true → b ≡ true
     later a b h i = grind arith
 
@@ -187,12 +175,9 @@ all_rest p test rows [] a h = refl
 all_rest p test rows (x ∷ some) a h =
     let tail = all_rest p test rows some a.1 h in
     elim (test x) as (λ b. test x ≡ b → list_all p (cond b (x ∷ filter test some) (filter test some)) ≡ true) [
-      | true ↦ λ t. and_both (p x) (list_all p (filter test some)) (h x a.0 t) tail
+      | true ↦ λ t. and_from (p x) (list_all p (filter test some)) (h x a.0 t) tail
       | false ↦ λ t. tail
     ] refl
-  where
-    and_both : (a b : Bool) → a ≡ true → b ≡ true → (a && b) ≡ true
-    and_both a b h i = grind arith
 
 left_rising : (along : Along) (entries : List IndexEntry) → Follows along entries → Rising comes_before entries → Rising comes_before (left along entries)
 left_rising along entries f up = subst (Rising comes_before) (sym f.1) (rising_drop comes_before f.0 (run entries along.range) (rising_filter comes_before (is_in along.range) entries up))

@@ -1,14 +1,14 @@
 -- The effort of a retrieval that was just made is at most the bound of the reader's lists.
-use Rattle.std.proofs.Common.{Box, ◌≡◌, ℕ, zero, suc, ◌+◌, ◌*◌, ◌<◌, ◌≤◌, List, [], ◌∷◌, length, filter, map, Bool, true, false, cond, ◌&&◌, ◌||◌, refl, ap, sym, ◌∙◌, arith, subst, Option, Some, None, Result, Ok, Err, IfOk, IfSome, nat_eq, nat_lt}
+use Rattle.std.proofs.Common.{Box, ◌≡◌, ℕ, zero, suc, ◌+◌, ◌*◌, ◌<◌, ◌≤◌, List, [], ◌∷◌, length, filter, map, Bool, true, false, cond, ◌&&◌, ◌||◌, refl, ap, sym, ◌∙◌, arith, subst, Option, Some, None, Result, Ok, Err, IfOk, IfSome}
 use Rattle.std.specs.declared.alloc.Global.{Global}
 use Rattle.std.specs.Prelude.{if◌then◌else◌}
 use Rattle.std.specs.List.{sum_by}
-use Rattle.std.proofs.lemmas.Bool.Decides.{nat_tests}
 use Rattle.std.proofs.lemmas.List.{length-map}
 use Rattle.std.proofs.lemmas.List.Quantifiers.{position-Some}
 use Rattle.std.proofs.lemmas.List.Sums.{sum_by-cons}
 use Rattle.std.proofs.lemmas.List.Sorted.{length_permutation, sum_by-IsPermutation}
-use Rattle.rv_value.proofs.Tests.{no_way}
+use Rattle.std.proofs.lemmas.Bool.{lt-ltb}
+use Rattle.rv_value.proofs.Tests.{no_way, same_number}
 use Rattle.rv_value.proofs.Lists.{filter_length}
 use Rattle.rv_value.specs.declared.record.Record.{Record}
 use Rattle.rv_judge.specs.declared.events.Control.{Control}
@@ -36,13 +36,14 @@ use Rattle.rv_choice.specs.declared.choosing.Candidate.{Candidate}
 use Rattle.rv_choice.specs.declared.choosing.Choice.{Choice}
 use Rattle.rv_choice.specs.Asked.{CanAsk}
 use Rattle.rv_choice.specs.Choice.{AreScans, IsChosen, IsLeastOf, candidate_at, choice_of, leads, no_candidate, order_index, restricted_choice, candidate_of, candidates_of, is_scanned, plan_of}
-use Rattle.rv_retrieval.specs.Effort.{Awaiting, back_work, cuts_and_entries, effort, entries_of_scans, entries_planned, front_work, keys_work, life_of, sum_of, table_work}
+use Rattle.rv_retrieval.specs.Effort.{Awaiting, back_work, cuts_and_entries, effort, entries_planned, front_work, keys_work, life_of, sum_of, table_work}
 use Rattle.rv_scan.specs.Fronts.{Front, walk_of}
 use Rattle.rv_jscan.proofs.Leaves.{leaves_first}
 use Rattle.rv_retrieval.specs.Opened.{Begun, has_scans}
 use Rattle.rv_choice.specs.Leading.{front_begun, front_candidate, walk_begun}
 use Rattle.rv_retrieval.specs.Opens.{first_of}
 use Rattle.rv_retrieval.specs.Shape.{Shape, is_background, is_building, is_led}
+use Rattle.rv_retrieval.proofs.BackWork.{entries_first}
 use Rattle.rv_retrieval.proofs.Chosen.{chosen_front, walk_same, filter_some}
 use Rattle.rv_retrieval.proofs.Courses.{HasFront, keys_back, sum_lower}
 
@@ -109,10 +110,6 @@ front_cost query shown choice chosen false led = omega arith
 sum_most : (c : Control) (b f t k : ℕ) → k ≤ b → sum_of c b f t k ≤ b + f + t
 sum_most c b f t k l = sum_lower Building c b f t k refl l
 
-entries_first : (plans : List ScanPlan) (shown : Shown) (snap : ℕ) → entries_of_scans plans None shown snap ≡ entries_planned plans shown snap
-entries_first [] shown snap = refl
-entries_first (p ∷ plans) shown snap = refl
-
 pub begun_life : (query : Query) (shown : Shown) (choice : Choice) (scans : List ScanPlan) (front : Front) (guaranteed cursor opening : ℕ) (v : Shape) → CanAsk query shown → IsTable (shown.rows query.table query.snap) (shown.pages query.table query.snap) → IsChosen query.order query.goal (candidates_of query shown) choice → AreScans query.only (candidates_of query shown) choice.background scans → front ≡ front_begun query (front_candidate (candidates_of query shown) choice.front) → Begun query choice.strategy scans front guaranteed cursor opening v → pages_work v.last (shown.rows query.table query.snap) (shown.pages query.table query.snap) ≡ length (shown.rows query.table query.snap) + shown.pages query.table query.snap → effort v shown < life_of query shown
 begun_life query shown choice scans front guaranteed cursor opening v can table chosen s is b last =
     let few = rows_few (shown.rows query.table query.snap) (shown.pages query.table query.snap) table in
@@ -139,17 +136,11 @@ some_scans only background cs scans at s l is =
     let same = length_permutation (map (plan_of only) (filter (is_scanned background) cs)) scans s.these in
     let mapped = length-map (filter (is_scanned background) cs) (plan_of only) in
     let found = filter_some (is_scanned background) cs at l is in
-    is_less 0 (length scans) (omega arith)
-  where
-    is_less : (a b : ℕ) → a < b → nat_lt a b ≡ true
-    is_less a b l = grind (arith, nat_tests)
+    lt-ltb 0 (length scans) (omega arith)
 
 pub scans_planned : (only : List (List Atom)) (order : List ℕ) (goal : Goal2) (cs : List Candidate) (choice : Choice) (scans : List ScanPlan) → IsChosen order goal cs choice → AreScans only cs choice.background scans → is_background (first_of choice.strategy (has_scans scans)) ≡ true → has_scans scans ≡ true
 scans_planned only order goal cs choice scans chosen s back = go (order_index order cs) chosen.short chosen.sufficient chosen.restricted chosen.least_short chosen.least_restricted chosen.rules
   where
-    itself : (n : ℕ) → nat_eq n n ≡ true
-    itself n = grind (arith, nat_tests)
-
     sorted : choice.strategy ≡ Sorted → has_scans scans ≡ true
     sorted e = by (has_scans scans) (sym (ap (λ (x : Strategy). is_background (first_of x (has_scans scans))) e) ∙ back)
       where
@@ -168,7 +159,7 @@ scans_planned only order goal cs choice scans chosen s back = go (order_index or
     table e = no_way (sym (sym (ap (λ (x : Strategy). is_background (first_of x (has_scans scans))) e) ∙ back))
 
     one : (at : ℕ) → at < length cs → choice.background ≡ One (candidate_at cs at).index → has_scans scans ≡ true
-    one at l e = some_scans only choice.background cs scans at s l (ap (λ (b : Background). is_scanned b (candidate_at cs at)) e ∙ itself (candidate_at cs at).index)
+    one at l e = some_scans only choice.background cs scans at s l (ap (λ (b : Background). is_scanned b (candidate_at cs at)) e ∙ same_number (candidate_at cs at).index)
 
     each : (at : ℕ) → IsLeastOf Restricted cs (Some at) → choice.background ≡ Each → has_scans scans ≡ true
     each at l e = some_scans only choice.background cs scans at s l.below (ap (λ (b : Background). is_scanned b (candidate_at cs at)) e ∙ l.is)

@@ -1,5 +1,6 @@
 -- A background scan in the range and with the part of the restriction finds each row that qualifies.
-use Rattle.std.proofs.Common.{◌≡◌, ℕ, List, Bool, true, ◌&&◌, refl, ap, sym, ◌∙◌, arith, subst}
+use Rattle.std.proofs.Common.{◌≡◌, ℕ, List, true, ◌&&◌, refl, ap, sym, ◌∙◌, subst}
+use Rattle.std.proofs.lemmas.Bool.{and_from}
 use Rattle.rv_value.specs.declared.record.Record.{Record}
 use Rattle.rv_value.specs.declared.record.IndexEntry.{IndexEntry}
 use Rattle.rv_value.specs.declared.range.Range.{Range}
@@ -33,10 +34,7 @@ is_true_true Unknown h = absurd (cc)
 own_entry : (only : List (List Atom)) (columns : List ℕ) (r : Record) → qualifies only r.values ≡ true → (is_in (range_for only columns) (entry_of columns r) && passes (part_of only columns) (entry_of columns r).key) ≡ true
 own_entry only columns r q =
     let t = is_true_true (truth only r.values) q in
-    both_true (is_in (range_for only columns) (entry_of columns r)) (passes (part_of only columns) (entry_of columns r).key) (ap in_side (covers only columns r.values t)) (part_covers only columns r.values t)
-  where
-    both_true : (a b : Bool) → a ≡ true → b ≡ true → (a && b) ≡ true
-    both_true a b h i = grind arith
+    and_from (is_in (range_for only columns) (entry_of columns r)) (passes (part_of only columns) (entry_of columns r).key) (ap in_side (covers only columns r.values t)) (part_covers only columns r.values t)
 
 pub found_by : (only : List (List Atom)) (columns : List ℕ) (rows : List Record) (n : ℕ) → qualifies_at only rows n ≡ true → has_entry n (passing (part_of only columns) (run (entries_of columns rows) (range_for only columns))) ≡ true
 found_by only columns rows n q =

@@ -1,11 +1,12 @@
 -- A trace goes on telling a run of the course, happening by happening.
-use Rattle.std.proofs.Common.{◌≡◌, ◌∙◌, ℕ, ◌+◌, ◌*◌, ◌-◌, ◌<◌, ◌≤◌, List, [], ◌∷◌, ◌++◌, Bool, true, false, not, ◌&&◌, ◌||◌, Option, Some, None, is_some, length, drop, nat_lt, nat_eq, refl, ap, sym, subst, arith, append_assoc, length-append, zero, suc, inl, inr}
-use Rattle.std.proofs.lemmas.Bool.{cases_Bool, ltb-true, or_from}
+use Rattle.std.proofs.Common.{◌≡◌, ◌∙◌, ℕ, ◌+◌, ◌*◌, ◌-◌, ◌<◌, ◌≤◌, List, [], ◌∷◌, ◌++◌, Bool, true, false, not, ◌||◌, Option, Some, None, is_some, length, drop, nat_lt, nat_eq, refl, ap, sym, subst, arith, append_assoc, length-append, zero, suc, inl, inr}
+use Rattle.std.proofs.lemmas.Bool.{cases_Bool, ltb-true, or_from, ltb-false, and_left}
 use Rattle.std.proofs.lemmas.Bool.Decides.{nat_tests}
 use Rattle.std.proofs.lemmas.List.Folds.{list_any-append}
+use Rattle.std.specs.Cmp.{first_so}
 use Rattle.rv_jscan.proofs.Planned.{dropped_one}
 use Rattle.rv_judge.proofs.Rooms.{with_room}
-use Rattle.rv_value.proofs.Tests.{no_way}
+use Rattle.rv_value.proofs.Tests.{no_way, left_false, right_false}
 use Rattle.rv_judge.specs.declared.events.Control.{Control}
 use Rattle.rv_judge.specs.declared.events.Control.TheVariants.{Building, ForegroundAlone, BackgroundAlone, FinalList, FinalTable, Done}
 use Rattle.rv_judge.specs.declared.events.Event.{Event}
@@ -31,17 +32,11 @@ use Rattle.rv_retrieval.proofs.Turns.{OneTurn, all_rests, drop_all, drop_last, d
 -- planned scans are of different indexes
 apart_from : (plans : List ScanPlan) (i k : ℕ) → has_index i (indexes_of plans) ≡ false → k < length plans → nat_eq i (plan_at plans k).index ≡ false
 apart_from [] i k h l = absurd (omega arith)
-apart_from (p ∷ plans) i zero h l = flipped p.index i (left_off (nat_eq p.index i) (has_index i (indexes_of plans)) h)
+apart_from (p ∷ plans) i zero h l = flipped p.index i (left_false (nat_eq p.index i) (has_index i (indexes_of plans)) h)
   where
-    left_off : (a b : Bool) → (a || b) ≡ false → a ≡ false
-    left_off a b h = grind arith
-
     flipped : (x y : ℕ) → nat_eq x y ≡ false → nat_eq y x ≡ false
     flipped x y h = grind (arith, nat_tests)
-apart_from (p ∷ plans) i (suc k) h l = apart_from plans i k (right_off (nat_eq p.index i) (has_index i (indexes_of plans)) h) (omega arith)
-  where
-    right_off : (a b : Bool) → (a || b) ≡ false → b ≡ false
-    right_off a b h = grind arith
+apart_from (p ∷ plans) i (suc k) h l = apart_from plans i k (right_false (nat_eq p.index i) (has_index i (indexes_of plans)) h) (omega arith)
 
 apart : (plans : List ScanPlan) (i k : ℕ) → EachOnce (indexes_of plans) → i < k → k < length plans → nat_eq (plan_at plans i).index (plan_at plans k).index ≡ false
 apart [] i k once low high = absurd (omega arith)
@@ -113,15 +108,9 @@ dropped_all (p ∷ plans) (suc k) l = dropped_all plans k (omega arith)
 pub more_is : (plans : List ScanPlan) (k : ℕ) (list : Option (List ℕ)) → goes_on plans k list ≡ is_more (indexes_of (drop k plans)) (list_length list)
 more_is plans k list = elim (cases_Bool (nat_lt k (length plans))) [
   | inl less ↦ some (ltb-true k (length plans) less) less list
-  | inr none ↦ rw (dropped_all plans k (not_less k (length plans) none)) (off (nat_lt k (length plans)) (not (is_empty_list list)) none)
+  | inr none ↦ rw (dropped_all plans k (ltb-false k (length plans) none)) (and_left (nat_lt k (length plans)) (not (is_empty_list list)) none)
 ]
   where
-    not_less : (a b : ℕ) → nat_lt a b ≡ false → b ≤ a
-    not_less a b h = grind (arith, nat_tests)
-
-    off : (a b : Bool) → a ≡ false → (a && b) ≡ false
-    off a b h = grind arith
-
     keyed : (n : ℕ) → not (nat_eq n 0) ≡ nat_lt 0 n
     keyed n = grind (arith, nat_tests)
 
@@ -130,10 +119,7 @@ more_is plans k list = elim (cases_Bool (nat_lt k (length plans))) [
     some l less (Some keys) = rw (dropped_one plans k l) (rw less (keyed (length keys)))
 
 way_less : (plans : List ScanPlan) (k : ℕ) (list : Option (List ℕ)) → goes_on plans k list ≡ true → k < length plans
-way_less plans k list h = ltb-true k (length plans) (left (nat_lt k (length plans)) (not (is_empty_list list)) h)
-  where
-    left : (a b : Bool) → (a && b) ≡ true → a ≡ true
-    left a b h = grind arith
+way_less plans k list h = ltb-true k (length plans) (first_so (nat_lt k (length plans)) (not (is_empty_list list)) h)
 
 -- where the next scan begins
 begun_is : (now : Control) (plans : List ScanPlan) (k : ℕ) (list : Option (List ℕ)) → k < length plans → begun now (indexes_of (drop k plans)) (list_length list) ≡ standing_of now plans k list

@@ -3,15 +3,16 @@ use Rattle.std.proofs.Common.{Box, ◌≡◌, ◌⊎◌, IsSome, ℕ, zero, suc,
 use Rattle.std.specs.declared.alloc.Global.{Global}
 use Rattle.std.specs.Prelude.{if◌then◌else◌}
 use Rattle.std.specs.List.{AllByRecursion, IsDistinct, list_any, slice_index_or, sum_by}
-use Rattle.std.proofs.lemmas.Bool.{cases_Bool}
+use Rattle.std.proofs.lemmas.Bool.{cases_Bool, eqb-true, or_from, or_right}
 use Rattle.std.proofs.lemmas.Bool.Decides.{nat_tests}
 use Rattle.std.proofs.lemmas.List.{length-append, length-map}
 use Rattle.std.proofs.lemmas.List.Sums.{sum_by-cons}
 use Rattle.std.proofs.lemmas.Map.Keys.{IsDistinct-head, IsDistinct-tail}
 use Rattle.std.proofs.lemmas.List.Sorted.{length_permutation, sum_by-IsPermutation}
 use Rattle.std.proofs.lemmas.List.Elements.{filter_agree}
+use Rattle.std.specs.Cmp.{first_so, second_so}
 use Rattle.rv_value.proofs.Lists.{all_at, either_few, filter_false}
-use Rattle.rv_value.proofs.Tests.{no_way}
+use Rattle.rv_value.proofs.Tests.{no_way, left_false, right_false, same_number}
 use Rattle.rv_value.specs.declared.record.IndexEntry.{IndexEntry}
 use Rattle.rv_judge.specs.declared.events.Strategy.{Strategy}
 use Rattle.rv_judge.specs.declared.events.Strategy.TheVariants.{Table, BackgroundOnly, FastFirst, Sorted, IndexOnly, Union}
@@ -42,7 +43,7 @@ use Rattle.rv_choice.specs.declared.choosing.Choice.{Choice}
 use Rattle.rv_choice.specs.declared.choosing.Role.TheVariants.{Short}
 use Rattle.rv_choice.specs.Asked.{CanAsk}
 use Rattle.rv_choice.specs.Choice.{AreScans, IsChosen, IsLeastOf, IsRight, candidate_at, candidate_of, candidates_of, choice_of, is_scanned, no_candidate, order_index, plan_of, plays}
-use Rattle.rv_retrieval.specs.Effort.{Awaiting, entries_of_scans, entries_planned, keys_work}
+use Rattle.rv_retrieval.specs.Effort.{Awaiting, entries_planned, keys_work}
 use Rattle.rv_scan.specs.Fronts.{Front, walk_of}
 use Rattle.rv_jscan.proofs.Apart.{entries_apart}
 use Rattle.rv_retrieval.specs.Opened.{Begun, OnlyLists, SameScans, is_one}
@@ -50,7 +51,7 @@ use Rattle.rv_retrieval.specs.Rulings.{going_on, gone, listed, scan_over}
 use Rattle.rv_retrieval.specs.Shape.{RetrievalFits, Shape, front_entries, is_background, is_sorted}
 use Rattle.rv_retrieval.specs.Short.{Settled, fetches_by, fetches_left, has_short, is_settled, keys_most, scan_fetches}
 use Rattle.rv_retrieval.specs.Telling.{list_len}
-use Rattle.rv_retrieval.proofs.BackWork.{entries_split, kept_few}
+use Rattle.rv_retrieval.proofs.BackWork.{entries_split, kept_few, entries_first}
 use Rattle.rv_retrieval.proofs.Controls.{sorted_is_led}
 use Rattle.rv_retrieval.proofs.Courses.{HasFront, keys_few}
 use Rattle.rv_retrieval.proofs.Entered.{left_apart}
@@ -152,12 +153,6 @@ none_of k (x ∷ xs) h =
     let more = none_of k xs (right_false _ _ h) in
     subst (λ (b : Bool). length (cond b (x ∷ filter (λ (e : IndexEntry). nat_eq e.row.0 k) xs) (filter (λ (e : IndexEntry). nat_eq e.row.0 k) xs)) ≡ 0) (sym here) more
   where
-    left_false : (a b : Bool) → (a || b) ≡ false → a ≡ false
-    left_false a b h = grind arith
-
-    right_false : (a b : Bool) → (a || b) ≡ false → b ≡ false
-    right_false a b h = grind arith
-
     turned : (a b : ℕ) → nat_eq a b ≡ false → nat_eq b a ≡ false
     turned a b h = grind (arith, nat_tests)
 
@@ -165,14 +160,11 @@ one_of : (k : ℕ) (xs : List IndexEntry) → Apart xs → length (filter (λ (e
 one_of k [] a = omega arith
 one_of k (x ∷ xs) a = elim (cases_Bool (nat_eq x.row.0 k)) [
   | inl here ↦
-      let same : x.row.0 ≡ k = number x.row.0 k here in
+      let same : x.row.0 ≡ k = eqb-true x.row.0 k here in
       let none = none_of k xs (ap (λ (n : ℕ). has_entry n xs) (sym same) ∙ a.0) in
       subst (λ (b : Bool). length (cond b (x ∷ filter (λ (e : IndexEntry). nat_eq e.row.0 k) xs) (filter (λ (e : IndexEntry). nat_eq e.row.0 k) xs)) ≤ 1) (sym here) (omega arith)
   | inr other ↦ subst (λ (b : Bool). length (cond b (x ∷ filter (λ (e : IndexEntry). nat_eq e.row.0 k) xs) (filter (λ (e : IndexEntry). nat_eq e.row.0 k) xs)) ≤ 1) (sym other) (one_of k xs a.1)
 ]
-  where
-    number : (a b : ℕ) → nat_eq a b ≡ true → a ≡ b
-    number a b h = grind (arith, nat_tests)
 
 listed_few : (keys : List ℕ) (xs : List IndexEntry) → Apart xs → length (filter (λ (e : IndexEntry). has_key e.row.0 keys) xs) ≤ length keys
 listed_few [] xs a = let none = filter_false xs in omega arith
@@ -234,10 +226,7 @@ over_few v mid new shown back a none same lists over is s f few =
 
 none_any : (p : Candidate → Bool) (cs : List Candidate) → ((i : ℕ) → i < length cs → p (candidate_at cs i) ≡ false) → list_any p cs ≡ false
 none_any p [] none = refl
-none_any p (c ∷ cs) none = both (p c) (list_any p cs) (none 0 (omega arith)) (none_any p cs (λ i l. none (suc i) (omega arith)))
-  where
-    both : (a b : Bool) → a ≡ false → b ≡ false → (a || b) ≡ false
-    both a b h i = grind arith
+none_any p (c ∷ cs) none = or_from (p c) (list_any p cs) (none 0 (omega arith)) (none_any p cs (λ i l. none (suc i) (omega arith)))
 
 pub short_background : (query : Query) (cs : List Candidate) (choice : Choice) → IsChosen query.order query.goal cs choice → list_any (plays Short) cs ≡ true → (at : ℕ) × ((at < length cs) × (plays Short (candidate_at cs at) ≡ true) × (choice.background ≡ One (candidate_at cs at).index))
 short_background query cs choice chosen some = go (order_index query.order cs) chosen.short chosen.sufficient chosen.restricted chosen.least_short chosen.rules
@@ -273,10 +262,7 @@ index_at query shown (i ∷ is) (suc at) l = index_at query shown is at (omega a
 one_scanned : (query : Query) (shown : Shown) (is : List (ℕ × List ℕ)) (at : ℕ) → IsDistinct nat_eq (map (λ (i : ℕ × List ℕ). i.0) is) → at < length is → filter (is_scanned (One (candidate_at (map (candidate_of query shown) is) at).index)) (map (candidate_of query shown) is) ≡ candidate_at (map (candidate_of query shown) is) at ∷ []
 one_scanned query shown [] at different l = absurd (omega arith)
 one_scanned query shown (i ∷ is) zero different l =
-    subst (λ (b : Bool). cond b (candidate_of query shown i ∷ filter (is_scanned (One i.0)) (map (candidate_of query shown) is)) (filter (is_scanned (One i.0)) (map (candidate_of query shown) is)) ≡ candidate_of query shown i ∷ []) (sym (itself i.0)) (ap (λ (cs : List Candidate). candidate_of query shown i ∷ cs) (none_scanned query shown i.0 is (IsDistinct-head nat_eq i.0 (map (λ (i : ℕ × List ℕ). i.0) is) different)))
-  where
-    itself : (n : ℕ) → nat_eq n n ≡ true
-    itself n = grind (arith, nat_tests)
+    subst (λ (b : Bool). cond b (candidate_of query shown i ∷ filter (is_scanned (One i.0)) (map (candidate_of query shown) is)) (filter (is_scanned (One i.0)) (map (candidate_of query shown) is)) ≡ candidate_of query shown i ∷ []) (sym (same_number i.0)) (ap (λ (cs : List Candidate). candidate_of query shown i ∷ cs) (none_scanned query shown i.0 is (IsDistinct-head nat_eq i.0 (map (λ (i : ℕ × List ℕ). i.0) is) different)))
 one_scanned query shown (i ∷ is) (suc at) different l =
     let here = candidate_at (map (candidate_of query shown) is) at in
     let mapped = length-map is (λ (i : ℕ × List ℕ). i.0) in
@@ -286,16 +272,10 @@ one_scanned query shown (i ∷ is) (suc at) different l =
 
 right_few : (shown : Shown) (snap : ℕ) (c : Candidate) → IsRight shown snap c → plays Short c ≡ true → length (run_from (shown.entries c.index snap) c.range None) ≤ 20
 right_few shown snap c right short =
-    let same = right.exact (left_true c.estimate.exact (nat_le c.estimate.value 20) (right_true c.restricted (c.estimate.exact && nat_le c.estimate.value 20) short)) in
-    let few = number c.estimate.value (right_true c.estimate.exact (nat_le c.estimate.value 20) (right_true c.restricted (c.estimate.exact && nat_le c.estimate.value 20) short)) in
+    let same = right.exact (first_so c.estimate.exact (nat_le c.estimate.value 20) (second_so c.restricted (c.estimate.exact && nat_le c.estimate.value 20) short)) in
+    let few = number c.estimate.value (second_so c.estimate.exact (nat_le c.estimate.value 20) (second_so c.restricted (c.estimate.exact && nat_le c.estimate.value 20) short)) in
     omega arith
   where
-    left_true : (a b : Bool) → (a && b) ≡ true → a ≡ true
-    left_true a b h = grind arith
-
-    right_true : (a b : Bool) → (a && b) ≡ true → b ≡ true
-    right_true a b h = grind arith
-
     number : (n : ℕ) → nat_le n 20 ≡ true → n ≤ 20
     number n h = grind (arith, nat_tests)
 
@@ -315,14 +295,10 @@ short_entries query shown choice scans can chosen s right some =
     let few = right_few shown query.snap (candidate_at cs at) (all_at (IsRight shown query.snap) cs at no_candidate right below) found.1.1 in
     omega arith
 
-planned_first : (plans : List ScanPlan) (shown : Shown) (snap : ℕ) → entries_of_scans plans None shown snap ≡ entries_planned plans shown snap
-planned_first [] shown snap = refl
-planned_first (p ∷ plans) shown snap = refl
-
 short_keys : (query : Query) (shown : Shown) (choice : Choice) (scans : List ScanPlan) (front : Front) (guaranteed cursor opening : ℕ) (v : Shape) → CanAsk query shown → IsChosen query.order query.goal (candidates_of query shown) choice → AreScans query.only (candidates_of query shown) choice.background scans → AllByRecursion (IsRight shown query.snap) (candidates_of query shown) → Begun query choice.strategy scans front guaranteed cursor opening v → has_short query shown ≡ true → keys_most v.joint shown ≤ 20
 short_keys query shown choice scans front guaranteed cursor opening v can chosen s right b some =
     let few = short_entries query shown choice scans can chosen s right some in
-    let first = planned_first scans shown query.snap in
+    let first = entries_first scans shown query.snap in
     let is = ap (λ (j : Joint). keys_most j shown) b.joint in
     omega arith
 
@@ -338,10 +314,7 @@ short_one query shown choice order cs o e chosen some = ap is_one (short_backgro
 any_at : {X : Type 0} (p : X → Bool) (xs : List X) (i : ℕ) (d : X) → i < length xs → p (slice_index_or xs i d) ≡ true → list_any p xs ≡ true
 any_at p [] i d l h = absurd (omega arith)
 any_at p (x ∷ xs) zero d l h = ap (λ (b : Bool). b || list_any p xs) h
-any_at p (x ∷ xs) (suc i) d l h = later (p x) (list_any p xs) (any_at p xs i d (omega arith) h)
-  where
-    later : (a b : Bool) → b ≡ true → (a || b) ≡ true
-    later a b h = grind arith
+any_at p (x ∷ xs) (suc i) d l h = or_right (p x) (list_any p xs) (any_at p xs i d (omega arith) h)
 
 not_one : (cs : List Candidate) (goal : Goal2) (lead sufficient restricted : Option ℕ) → is_one (choice_of cs goal lead None sufficient restricted).background ≡ false
 not_one cs goal (Some front) sufficient restricted = elim (candidate_at cs front).sufficient as (λ b. is_one (cond b Nothing (EachBut (candidate_at cs front).index)) ≡ false) [ true ↦ refl | false ↦ refl ]

@@ -3,11 +3,11 @@ use Rattle.std.proofs.Common.{Box, ◌≡◌, ◌∙◌, ℕ, ◌<◌, ◌≤◌
 use Rattle.std.specs.declared.alloc.Global.{Global}
 use Rattle.std.specs.List.{AllByRecursion, list_all}
 use Rattle.std.specs.Prelude.{if◌then◌else◌}
-use Rattle.std.proofs.lemmas.Bool.{cases_Bool, or_parts, lt-ltb, or_from}
+use Rattle.std.proofs.lemmas.Bool.{cases_Bool, or_parts, lt-ltb, or_from, or_right, or_left, and_from, eqb-true}
 use Rattle.std.proofs.lemmas.Bool.Decides.{nat_tests}
 use Rattle.std.proofs.lemmas.List.{length-map}
 use Rattle.std.proofs.lemmas.List.Sorted.{All-permutation, IsPermutation-map, length_permutation}
-use Rattle.rv_value.proofs.Tests.{no_way}
+use Rattle.rv_value.proofs.Tests.{no_way, number_turned, same_number}
 use Rattle.rv_value.proofs.Lists.{from_all, to_all}
 use Rattle.rv_keys.specs.Keys.{Once, has_key}
 use Rattle.rv_keys.proofs.Onces.{Once-IsPermutation, Once-cons, Once-head, Once-tail}
@@ -74,11 +74,8 @@ kept_once only b (c ∷ cs) once =
 
 has_flips : (i : ℕ) (keys : List ℕ) → has_index i keys ≡ has_key i keys
 has_flips i [] = refl
-has_flips i (k ∷ keys) = let more = has_flips i keys in let here = flips k i in both (nat_eq k i) (nat_eq i k) (has_index i keys) (has_key i keys) here more
+has_flips i (k ∷ keys) = let more = has_flips i keys in let here = number_turned k i in both (nat_eq k i) (nat_eq i k) (has_index i keys) (has_key i keys) here more
   where
-    flips : (x y : ℕ) → nat_eq x y ≡ nat_eq y x
-    flips x y = grind (arith, nat_tests)
-
     both : (a b x y : Bool) → a ≡ b → x ≡ y → (a || x) ≡ (b || y)
     both a b x y h i = rw (h, i) refl
 
@@ -103,20 +100,11 @@ IsKnown indexes p = has_index p.index indexes ≡ true
 
 wider : (i : ℕ) (indexes : List ℕ) (cs : List Candidate) → AllByRecursion (λ (c : Candidate). has_index c.index indexes ≡ true) cs → AllByRecursion (λ (c : Candidate). has_index c.index (i ∷ indexes) ≡ true) cs
 wider i indexes [] a = tt
-wider i indexes (c ∷ cs) a = (later (nat_eq i c.index) (has_index c.index indexes) a.0, wider i indexes cs a.1)
-  where
-    later : (a b : Bool) → b ≡ true → (a || b) ≡ true
-    later a b h = grind arith
+wider i indexes (c ∷ cs) a = (or_right (nat_eq i c.index) (has_index c.index indexes) a.0, wider i indexes cs a.1)
 
 all_known : (query : Query) (shown : Shown) (indexes : List (ℕ × List ℕ)) → AllByRecursion (λ (c : Candidate). has_index c.index (map (λ (i : ℕ × List ℕ). i.0) indexes) ≡ true) (map (candidate_of query shown) indexes)
 all_known query shown [] = tt
-all_known query shown (i ∷ indexes) = (here (nat_eq i.0 i.0) _ (itself i.0), wider i.0 (map (λ (x : ℕ × List ℕ). x.0) indexes) (map (candidate_of query shown) indexes) (all_known query shown indexes))
-  where
-    here : (a b : Bool) → a ≡ true → (a || b) ≡ true
-    here a b h = grind arith
-
-    itself : (n : ℕ) → nat_eq n n ≡ true
-    itself n = grind (arith, nat_tests)
+all_known query shown (i ∷ indexes) = (or_left (nat_eq i.0 i.0) _ (same_number i.0), wider i.0 (map (λ (x : ℕ × List ℕ). x.0) indexes) (map (candidate_of query shown) indexes) (all_known query shown indexes))
 
 kept_known : (only : List (List Atom)) (b : Background) (indexes : List ℕ) (cs : List Candidate) → AllByRecursion (λ (c : Candidate). has_index c.index indexes ≡ true) cs → AllByRecursion (IsKnown indexes) (plans_of only b cs)
 kept_known only b indexes [] a = tt
@@ -129,10 +117,7 @@ kept_known only b indexes (c ∷ cs) a =
 
 known_all : (indexes : List ℕ) (plans : List ScanPlan) → AllByRecursion (IsKnown indexes) plans → list_all (λ i. has_index i indexes) (indexes_of plans) ≡ true
 known_all indexes [] a = refl
-known_all indexes (p ∷ plans) a = both (has_index p.index indexes) (list_all (λ i. has_index i indexes) (indexes_of plans)) a.0 (known_all indexes plans a.1)
-  where
-    both : (a b : Bool) → a ≡ true → b ≡ true → (a && b) ≡ true
-    both a b h i = grind arith
+known_all indexes (p ∷ plans) a = and_from (has_index p.index indexes) (list_all (λ i. has_index i indexes) (indexes_of plans)) a.0 (known_all indexes plans a.1)
 
 pub planned_known : (query : Query) (shown : Shown) (b : Background) (cs : List Candidate) (scans : List ScanPlan) → cs ≡ candidates_of query shown → AreScans query.only cs b scans → list_all (λ i. has_index i (indexes_asked query)) (indexes_of scans) ≡ true
 planned_known query shown b cs scans e s =
@@ -156,14 +141,11 @@ most_one : (i : ℕ) (cs : List Candidate) → Once (index_numbers cs) → lengt
 most_one i [] once = omega arith
 most_one i (c ∷ cs) once = elim (cases_Bool (nat_eq c.index i)) [
   | inl here ↦
-      let is : c.index ≡ i = number c.index i here in
+      let is : c.index ≡ i = eqb-true c.index i here in
       let none = none_one i cs (subst (λ (n : ℕ). has_key n (index_numbers cs) ≡ false) is (Once-head c.index (index_numbers cs) once)) in
       rw here (omega arith)
   | inr other ↦ rw other (most_one i cs (Once-tail c.index (index_numbers cs) once))
 ]
-  where
-    number : (a b : ℕ) → nat_eq a b ≡ true → a ≡ b
-    number a b e = grind (arith, nat_tests)
 
 pub one_scan : (query : Query) (shown : Shown) (b : Background) (cs : List Candidate) (scans : List ScanPlan) → cs ≡ candidates_of query shown → CanAsk query shown → AreScans query.only cs b scans → is_one b ≡ true → length scans ≤ 1
 one_scan query shown b cs scans e can s one =
@@ -196,9 +178,6 @@ has_by Union (p ∷ scans) h l = absurd (cc)
 pub chosen_has : (only : List (List Atom)) (order : List ℕ) (goal : Goal2) (cs : List Candidate) (choice : Choice) (scans : List ScanPlan) → IsChosen order goal cs choice → AreScans only cs choice.background scans → HasScans choice.strategy (indexes_of scans)
 chosen_has only order goal cs choice scans chosen s = go (order_index order cs) chosen.short chosen.sufficient chosen.restricted chosen.least_short chosen.least_restricted chosen.rules
   where
-    itself : (n : ℕ) → nat_eq n n ≡ true
-    itself n = grind (arith, nat_tests)
-
     some : (at : ℕ) → is_planned choice.strategy ≡ true → at < length cs → is_scanned choice.background (candidate_at cs at) ≡ true → HasScans choice.strategy (indexes_of scans)
     some at planned l h =
         let same = length_permutation (map (plan_of only) (filter (is_scanned choice.background) cs)) scans s.these in
@@ -218,7 +197,7 @@ chosen_has only order goal cs choice scans chosen s = go (order_index order cs) 
     go : (found short sufficient restricted : Option ℕ) → IsLeastOf Short cs short → IsLeastOf Restricted cs restricted → choice ≡ choice_of cs goal found short sufficient restricted → HasScans choice.strategy (indexes_of scans)
     go (Some at) (Some n) sufficient restricted l m r = led Sorted (ap (λ (c : Choice). c.strategy) r) tt
     go (Some at) None sufficient restricted l m r = led Sorted (ap (λ (c : Choice). c.strategy) r) tt
-    go None (Some n) sufficient restricted l m r = some n (ap (λ (c : Choice). is_planned c.strategy) r) l.below (ap (λ (c : Choice). is_scanned c.background (candidate_at cs n)) r ∙ itself (candidate_at cs n).index)
+    go None (Some n) sufficient restricted l m r = some n (ap (λ (c : Choice). is_planned c.strategy) r) l.below (ap (λ (c : Choice). is_scanned c.background (candidate_at cs n)) r ∙ same_number (candidate_at cs n).index)
     go None None (Some at) restricted l m r = led IndexOnly (ap (λ (c : Choice). c.strategy) r) tt
     go None None None restricted l m r = restricted_has goal restricted m r
 

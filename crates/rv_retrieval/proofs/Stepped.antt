@@ -1,7 +1,7 @@
 -- What a step does, from what its parts do.
 use Rattle.std.proofs.Common.{◌≡◌, ◌⊎◌, ◌∙◌, ℕ, ◌+◌, ◌<◌, ◌≤◌, List, ◌∷◌, Bool, true, false, not, ◌&&◌, Option, Some, None, Result, Ok, Err, IfOk, IfSome, drop, find, length, refl, ap, sym, subst, arith, le_trans, inl, inr, ◌==◌}
 use Rattle.std.specs.Prelude.{if◌then◌else◌}
-use Rattle.std.proofs.lemmas.Bool.{cases_Bool}
+use Rattle.std.proofs.lemmas.Bool.{cases_Bool, and_from}
 use Rattle.rv_reader.proofs.Rows.{found_row}
 use Rattle.rv_value.specs.declared.record.IndexEntry.{IndexEntry}
 use Rattle.rv_value.specs.declared.record.Record.{Record}
@@ -94,7 +94,7 @@ one_piece would state after old mid new piece sieved g e leaves a s few answers 
     let back : is_background old.control ≡ true = ap (λ (x : Shape). is_background x.control) (sym e) ∙ a.back in
     let taken : TakeLeaves old.joint mid.joint = subst (λ (b : Bool). TakesLeafBy b old.joint mid.joint) back leaves in
     let way : under_way old.joint ≡ true = sym (way_taken old.joint mid.joint taken) ∙ a.awaits.way in
-    subst (λ (b : Bool). StepsBehind b would state after old new) (sym (both (is_background old.control) (under_way old.joint) back way)) (record {
+    subst (λ (b : Bool). StepsBehind b would state after old new) (sym (and_from (is_background old.control) (under_way old.joint) back way)) (record {
       taken = mid.joint;
       piece = sieved;
       short = subst (λ (p : Pieced). length p.entries ≤ 48) (sym s) few;
@@ -103,9 +103,6 @@ one_piece would state after old mid new piece sieved g e leaves a s few answers 
       obeys = subst (λ (x : Shape). GivesOn would state after sieved Accepted x new) e (accepted g answers o);
     })
   where
-    both : (a b : Bool) → a ≡ true → b ≡ true → (a && b) ≡ true
-    both a b h i = grind arith
-
     accepted : (g : Given) → Answers mid sieved g new → GivesOn would state after sieved g mid new → GivesOn would state after sieved Accepted mid new
     accepted Accepted answers o = o
     accepted (Stale asked now) (never, _, _, _) o = absurd (never (subst (AwaitsPiece mid) (sym s) a))

@@ -1,5 +1,6 @@
 -- A change of the control, of the joint scan or of what is borrowed leaves the fit and the rest.
 use Rattle.std.proofs.Common.{◌≡◌, ℕ, ◌<◌, ◌⊎◌, List, length, Bool, true, false, not, ◌&&◌, refl, ap, sym, ◌∙◌, arith, rules, subst, Some, None, Option, is_some, inl, inr, IsSome, IfSome}
+use Rattle.std.specs.Cmp.{first_so}
 use Rattle.rv_final.proofs.Owed.{row_there}
 use Rattle.rv_value.specs.declared.record.IndexEntry.{IndexEntry}
 use Rattle.rv_keys.specs.Keys.{has_key}
@@ -149,13 +150,10 @@ switch_fits v shown c t m f = record {
   unbegun = λ e. f.unbegun (early_after v (source_of c v.strategy) m.leads e);
   listed = λ e. listed_after v shown (source_of c v.strategy) f m.leads e;
   room = λ b. f.room (ap is_building (sym (m.stays b)) ∙ b);
-  remembered = λ b. f.remembered (ap (λ (x : Control). is_building x && is_index_only v.strategy) (sym (m.stays (left_true (is_building c) (is_index_only v.strategy) b))) ∙ b);
+  remembered = λ b. f.remembered (ap (λ (x : Control). is_building x && is_index_only v.strategy) (sym (m.stays (first_so (is_building c) (is_index_only v.strategy) b))) ∙ b);
   ordered = f.ordered;
   sorted = λ h. sorted_after v shown (source_of c v.strategy) f m.leads h;
 }
-  where
-    left_true : (a b : Bool) → (a && b) ≡ true → a ≡ true
-    left_true a b h = grind arith
 
 pub switch_keeps : (v new : Shape) (c : Control) → new ≡ record v { control = c; trace = new.trace } → MayGo v c → Keeps v new
 switch_keeps v new c e m = subst (λ (x : Shape). Keeps v x) (sym e) record {

@@ -1,9 +1,10 @@
 -- What a retrieval's calls do keeps its trace telling a run of the course.
 use Rattle.std.proofs.Common.{◌≡◌, ◌∙◌, ℕ, ◌+◌, ◌≤◌, ◌==◌, List, [], ◌∷◌, Bool, true, false, not, ◌&&◌, ◌||◌, Option, Some, None, Result, Ok, Err, IfOk, OnErr, inl, inr, is_some, length, nat_lt, nat_eq, refl, ap, sym, subst, arith}
 use Rattle.std.specs.Prelude.{if◌then◌else◌}
-use Rattle.std.proofs.lemmas.Bool.{cases_Bool, ltb-true}
+use Rattle.std.proofs.lemmas.Bool.{cases_Bool, ltb-true, and_left, le-ltb, and_from}
 use Rattle.std.proofs.lemmas.Bool.Decides.{nat_tests}
-use Rattle.std.specs.Cmp.{first_so}
+use Rattle.std.specs.Cmp.{first_so, second_so}
+use Rattle.rv_value.proofs.Tests.{same_number}
 use Rattle.rv_value.specs.declared.record.IndexEntry.{IndexEntry}
 use Rattle.rv_value.specs.declared.record.Record.{Record}
 use Rattle.rv_restrict.specs.declared.atom.Atom.{Atom}
@@ -93,18 +94,12 @@ runs_tells v j keys back p l beyond short t =
     let items = v.trace.events.items in
     let at = v.joint.ended in
     let last : List Event = At next ∷ [] in
-    let off = none (nat_lt (at + 1) (length v.joint.plans)) (not (is_empty_list (Some keys))) (no_less (at + 1) (length v.joint.plans) short) in
+    let off = and_left (nat_lt (at + 1) (length v.joint.plans)) (not (is_empty_list (Some keys))) (le-ltb (at + 1) (length v.joint.plans) short) in
     let told = list_tells_last v.trace.strategy v.strategy v.control v.joint.plans at j.ended v.joint.list (indexes_asked v.query) keys items t back off beyond in
     let by_list = subst (λ (o : Option (List ℕ)). TellsOf v.trace.strategy v.strategy next v.joint.plans j.ended o (indexes_asked v.query) (with_events (with_events items (ListOf (plan_at v.joint.plans at).index (list_len o) ∷ [])) last)) (sym l) told in
     let by_plans = subst (λ (ps : List ScanPlan). TellsOf v.trace.strategy v.strategy next ps j.ended j.list (indexes_asked v.query) (with_events (with_events items (ListOf (plan_at ps at).index (list_len j.list) ∷ [])) last)) (sym p) by_list in
     let lt : nat_lt at (length j.plans) ≡ true = ap (λ (ps : List ScanPlan). nat_lt at (length ps)) p ∙ way_lt v.joint.plans at v.joint.list (t.way back) in
     renote_first v.trace.strategy v.strategy next j.plans j.ended j.list (indexes_asked v.query) items last (events_for (λ index. ListOf index (list_len j.list)) (index_of j at)) (ListOf (plan_at j.plans at).index (list_len j.list) ∷ []) (events_at (λ index. ListOf index (list_len j.list)) j at lt) by_plans
-  where
-    none : (a b : Bool) → a ≡ false → (a && b) ≡ false
-    none a b h = grind arith
-
-    no_less : (a b : ℕ) → b ≤ a → nat_lt a b ≡ false
-    no_less a b h = grind (arith, nat_tests)
 
 -- A verdict is obeyed.
 
@@ -138,7 +133,7 @@ is_it Done h = absurd (cc)
 
 front_stops : (v : Shape) → Tells v → Tells (ruled AbandonForeground v)
 front_stops v t = elim (cases_Bool (can_stop v)) [
-  | inl on ↦ subst Tells (sym (over_on on)) (by v.control (is_it v.control (first_so (building v.control) (fast_first v.strategy || index_only v.strategy) on)) (right_of (building v.control) (fast_first v.strategy || index_only v.strategy) on) t)
+  | inl on ↦ subst Tells (sym (over_on on)) (by v.control (is_it v.control (first_so (building v.control) (fast_first v.strategy || index_only v.strategy) on)) (second_so (building v.control) (fast_first v.strategy || index_only v.strategy) on) t)
   | inr off ↦ subst Tells (sym (over_off off)) t
 ]
   where
@@ -147,9 +142,6 @@ front_stops v t = elim (cases_Bool (can_stop v)) [
 
     over_off : can_stop v ≡ false → ruled AbandonForeground v ≡ v
     over_off off = rw off refl
-
-    right_of : (a b : Bool) → (a && b) ≡ true → b ≡ true
-    right_of a b h = grind arith
 
     by : (now : Control) → now ≡ Building → (fast_first v.strategy || index_only v.strategy) ≡ true → TellsOf v.trace.strategy v.strategy now v.joint.plans v.joint.ended v.joint.list (indexes_asked v.query) v.trace.events.items → TellsOf v.trace.strategy v.strategy (next_control v.strategy now (Ruled AbandonForeground (more_behind v.joint) (is_some v.joint.list))) v.joint.plans v.joint.ended v.joint.list (indexes_asked v.query) (with_events (with_events v.trace.events.items (Stop ∷ [])) (At (next_control v.strategy now (Ruled AbandonForeground (more_behind v.joint) (is_some v.joint.list))) ∷ []))
     by Building e can t = stop_tells v.trace.strategy v.strategy v.joint.plans v.joint.ended v.joint.list (indexes_asked v.query) v.trace.events.items (more_behind v.joint) t can refl
@@ -171,12 +163,9 @@ accepted_tells : (would : ℕ → Facts → Ruling) (state after : ℕ) (v new :
 accepted_tells would state after v new j entries (Some cut) back way e o t =
     let w : Shape = record v { joint = going v.joint entries cut } in
     let goes : Obeyed (nat_eq v.joint.ended v.joint.ended) (under_way v.joint) would state after v.joint.ended w new = subst (λ (x : Joint). Obeys would state after v.joint.ended (record v { joint = x }) new) e o in
-    let obeyed : new ≡ ruled (would state (facts_of (account_of w) v.joint.ended)).verdict w = asked (nat_eq v.joint.ended v.joint.ended) (under_way v.joint) w (itself v.joint.ended) way goes in
+    let obeyed : new ≡ ruled (would state (facts_of (account_of w) v.joint.ended)).verdict w = asked (nat_eq v.joint.ended v.joint.ended) (under_way v.joint) w (same_number v.joint.ended) way goes in
     subst Tells (sym obeyed) (ruled_tells (would state (facts_of (account_of w) v.joint.ended)).verdict w back t)
   where
-    itself : (n : ℕ) → nat_eq n n ≡ true
-    itself n = grind (arith, nat_tests)
-
     asked : (a b : Bool) (w : Shape) → a ≡ true → b ≡ true → Obeyed a b would state after v.joint.ended w new → new ≡ ruled (would state (facts_of (account_of w) w.joint.ended)).verdict w
     asked true true w e f o = o.0
     asked true false w e f o = absurd (cc)
@@ -287,10 +276,7 @@ pub steps_tells : (would : ℕ → Facts → Ruling) (state after : ℕ) (shown 
 steps_tells would state after shown c d s v new led does t = go v.control v.strategy (fresh_of v) refl refl does
   where
     can : (now : Control) (st : Strategy) → building now ≡ true → (fast_first st || index_only st) ≡ true → (building now && (fast_first st || index_only st)) ≡ true
-    can now st a b = both (building now) (fast_first st || index_only st) a b
-      where
-        both : (a b : Bool) → a ≡ true → b ≡ true → (a && b) ≡ true
-        both a b h i = grind arith
+    can now st a b = and_from (building now) (fast_first st || index_only st) a b
 
     behind : is_background v.control ≡ true → StepsBackground would state after v new → Tells new
     behind back b = behind_tells (is_awaiting v) would state after (record v { borrowed = b.passed }) new (λ h. back) b.does t
