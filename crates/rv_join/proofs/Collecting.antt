@@ -1,25 +1,13 @@
 -- Offers that are kept as they come, the first one last.
-use Rattle.std.proofs.Common.{◌≡◌, List, [], ◌∷◌, ◌++◌, length, reverse, Option, Some, None, IsSome, option_to_list, Result, Ok, Err, IfOk, ap, ◌∙◌, arith, refl, subst, sym}
+use Rattle.std.proofs.Common.{◌≡◌, List, [], ◌∷◌, ◌++◌, length, reverse, Option, Some, None, IsSome, option_to_list, ap, ◌∙◌, arith, refl, subst, sym}
 use Rattle.std.specs.List.Sorted.{IsPermutation, IsSortedBy}
-use Rattle.std.proofs.lemmas.List.{length-map, reverse-append, reverse-reverse}
+use Rattle.std.proofs.lemmas.List.{reverse-append, reverse-reverse}
 use Rattle.std.proofs.lemmas.List.Sorted.{IsPermutation-reverse, IsPermutation-trans}
-use Rattle.rv_value.specs.declared.value.Value.{Value}
 use Rattle.rv_value.proofs.Tests.{no_other}
 use Rattle.rv_model.specs.declared.state.Offer.{Offer}
-use Rattle.rv_join.specs.declared.places.Asked.{Asked}
-use Rattle.rv_join.specs.Collected.{HasWidths, widths_of}
-use Rattle.rv_join.specs.Levels.{offered}
 use Rattle.rv_join.specs.Order.{before}
 use Rattle.rv_join.specs.Plans.{Taken}
 use Rattle.rv_join.proofs.Planning.{reversed}
-
--- an offer of a plan
-offer_is_wide : (a : Asked) (rows : List (List Value)) (o : Offer) → o ≡ offered a rows → HasWidths (widths_of a) o
-offer_is_wide a rows o is = rw is (record { order = length-map a.order _; returned = length-map a.returns _ })
-
-pub offers_wide : {E : Type 0} (r : Result Offer E) (a : Asked) (rows : List (List Value)) → IfOk r (λ o. o ≡ offered a rows) → IfOk r (HasWidths (widths_of a))
-offers_wide (Ok o) a rows is = offer_is_wide a rows o is
-offers_wide (Err e) a rows is = tt
 
 -- Keeping.
 

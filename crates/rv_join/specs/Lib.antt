@@ -3,7 +3,6 @@ pub mod Levels
 pub mod Work
 pub mod Order
 pub mod Moves
-pub mod Collected
 pub mod Rules
 pub mod Plans
 pub mod Alone

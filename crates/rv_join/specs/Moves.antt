@@ -20,7 +20,6 @@ use Rattle.rv_join.specs.declared.stack.Moved.{Moved}
 use Rattle.rv_join.specs.declared.stack.Moved.TheVariants.{Gave, Done, Moving}
 use Rattle.rv_join.specs.Levels.{AllFit, LevelFits, Stacked, StackFits, bag, over_held, still, tables_of, under, widened}
 use Rattle.rv_join.specs.Asking.{Asks, item_at, lives_of}
-use Rattle.rv_join.specs.Collected.{HasWidths, widths_of}
 use Rattle.rv_join.specs.Work.{items_below, level_work, levels_work, loops_work, row_cost}
 use Rattle.rv_join.specs.Order.{IsByFirst, IsLeastOf, Led, LevelLed}
 
@@ -90,12 +89,6 @@ abbrev pub Moves : Asked → Shown → Moved → Stacked → Stacked → Type 0
 Moves a shown (Gave o) old new = Takes a shown o old new
 Moves a shown Done old new = Kept a shown old new × (bag a shown old ≡ [])
 Moves a shown Moving old new = Kept a shown old new × (loops_work a shown new < loops_work a shown old)
-
--- an offer that is given has a value for each column of the order, and for each one returned
-abbrev pub GivesWide : Asked → Moved → Type 0
-GivesWide a (Gave o) = HasWidths (widths_of a) o
-GivesWide a Done = Unit {0}
-GivesWide a Moving = Unit {0}
 
 -- one of some levels was called
 pub record LevelsStay (a : Asked) (shown : Shown) (place : ℕ) (old new : List Level) : Type 0 where

@@ -4,13 +4,12 @@ ghost use Rattle.std.specs.List.Sorted.{IsPermutation, IsSortedBy};
 ghost use Rattle.rv_join.specs.Alone.{Fetches, GatherSpends, StackAsks, StepsOnce, level_effort};
 ghost use Rattle.rv_join.specs.Asking.{CanRun};
 ghost use Rattle.rv_access.specs.Accesses.{SamePlans};
-ghost use Rattle.rv_join.specs.Collected.{widths_of};
 ghost use Rattle.rv_join.specs.Levels.{StackFits, first_of};
 ghost use Rattle.rv_join.specs.Moves.{Kept, Rises};
 ghost use Rattle.rv_join.specs.Order.{before};
 ghost use Rattle.rv_join.specs.Plans.{Gathers, Taken};
 
-use crate::kept::{Widths, keep, sort, take, widths_of};
+use crate::kept::{keep, sort, take};
 use crate::places::Asked;
 use crate::stack::{Moved, Stack};
 use rv_judge::{Judge, Steps};
@@ -34,26 +33,24 @@ pub enum Stage {
 /// Offers gathered, as they come: the first one stands last.
 #[derive(Drop)]
 pub struct Gathered {
-    widths: Widths,
     offers: Vec<Offer>,
 }
 
 impl Model for Gathered {
-    ghost use Rattle.std.specs.Prelude.{reverse};
-    ghost use Rattle.rv_join.specs.Collected.{Collected};
+    ghost use Rattle.std.specs.Prelude.{List, reverse};
+    ghost use Rattle.rv_model.specs.declared.state.Offer.{Offer as OneOffer};
 
-    ghost Value = { Collected };
+    ghost Value = { List OneOffer };
 
-    ghost view = { λ g. record { widths = g.widths; offers = reverse g.offers.items } };
+    ghost view = { λ g. reverse g.offers.items };
 }
 
 impl Gathered {
-    /// No offers of a plan.
-    pub fn new(alloc: Global, asked: &Asked) -> Gathered
-        ensures { result ≡ record { widths = widths_of asked.now; offers = [] } }
+    /// No offers.
+    pub fn new(alloc: Global) -> Gathered
+        ensures { result ≡ [] }
     {
         Gathered {
-            widths: widths_of(asked),
             offers: Vec::new(alloc),
         }
     }
@@ -72,8 +69,7 @@ impl Gathered {
     ) -> Result<bool, NoMemory>
         requires can { CanRun asked.now (R.shown reader.now) }
         requires fits { StackFits asked.now (R.shown reader.now) stack.old }
-        requires widths { self.old.widths ≡ widths_of asked.now }
-        ensures gathers { IfOk result (λ all. Gathers all asked.now (R.shown reader.now) stack.old self.old.offers stack.new self.new.offers) }
+        ensures gathers { IfOk result (λ all. Gathers all asked.now (R.shown reader.now) stack.old self.old stack.new self.new) }
         ensures alone { length asked.now.items ≡ 1 → Rises (first_of stack.old).here (first_of stack.new).here steps.old steps.new }
         ensures stays { would judge.new ≡ would judge.old }
         ensures asks { StackAsks (would judge.old) (state judge.old) (state judge.new) asked.now (R.shown reader.now) steps.old steps.new stack.old stack.new }
@@ -81,7 +77,6 @@ impl Gathered {
         ensures spends { length asked.now.items ≡ 1 → IfOk result (λ all. GatherSpends all steps.old steps.new (level_effort (R.shown reader.now) stack.old.at) (level_effort (R.shown reader.now) stack.new.at)) }
         ensures fetches { length asked.now.items ≡ 1 → OnOk result (Fetches (R.shown reader.now) steps.old steps.new stack.old.at.here stack.new.at.here) }
         ensures plans { SamePlans (first_of stack.old).here (first_of stack.new).here }
-        ensures widths { self.new.widths ≡ self.old.widths }
         ensures kept { OnErr result (Kept asked.now (R.shown reader.now) stack.old stack.new) }
         ensures same { OnErr result (self.new ≡ self.old) }
     {
@@ -98,17 +93,15 @@ impl Gathered {
 
     /// Sorts all that is gathered. With want of memory all is still there, in some order.
     pub fn sort(&mut self) -> Result<(), NoMemory>
-        ensures same { IsPermutation self.old.offers self.new.offers }
-        ensures sorted { OnOk result (IsSortedBy before self.new.offers) }
-        ensures widths { self.new.widths ≡ self.old.widths }
+        ensures same { IsPermutation self.old self.new }
+        ensures sorted { OnOk result (IsSortedBy before self.new) }
     {
         sort(&mut self.offers)
     }
 
     /// Takes the first offer.
     pub fn take(&mut self) -> Option<Offer>
-        ensures taken { Taken result self.old.offers self.new.offers }
-        ensures widths { self.new.widths ≡ self.old.widths }
+        ensures taken { Taken result self.old self.new }
     {
         take(&mut self.offers)
     }

@@ -1,34 +1,14 @@
 //! Offers that are gathered, as they come: the first one stands last.
-ghost use Rattle.std.specs.Prelude.{◌≡◌, ◌+◌, ◌<◌, ◌≤◌, ◌^◌, ◌∷◌, reverse, OnOk};
+ghost use Rattle.std.specs.Prelude.{◌≡◌, ◌+◌, ◌≤◌, ◌∷◌, reverse, OnOk};
 ghost use Rattle.std.specs.List.Sorted.{IsPermutation, IsSortedBy};
 ghost use Rattle.std.specs.Vec.{vec_capacity, vec_len};
 ghost use Rattle.rv_value.specs.Order.{values_cmp};
-ghost use Rattle.rv_join.specs.Collected.{widths_of};
 ghost use Rattle.rv_join.specs.Order.{before};
 ghost use Rattle.rv_join.specs.Plans.{Taken};
 
-use crate::places::Asked;
 use rv_model::Offer;
 use rv_value::{NoMemory, cmp_values};
 use std::cmp::Ordering;
-
-/// How many order values an offer has, and how many values it returns.
-#[derive(Clone, Copy, PartialEq, Eq)]
-pub struct Widths {
-    pub order: usize,
-    pub returned: usize,
-}
-
-/// Those of a plan's offers.
-pub fn widths_of(asked: &Asked) -> Widths
-    ensures is { result ≡ widths_of asked.now }
-    ensures small { result.order + result.returned < 2 ^ 64 }
-{
-    Widths {
-        order: asked.order.len(),
-        returned: asked.returns.len(),
-    }
-}
 
 /// By the order values alone.
 fn cmp_order(a: &Offer, b: &Offer) -> Ordering

@@ -61,12 +61,7 @@ impl Model for Plan {
 
     ghost Value = { Planned };
 
-    ghost view = { λ p. record { asked = p.asked; stack = p.stack; gathered = p.gathered.offers; stage = p.stage; reads = p.reads } };
-
-    ghost use Rattle.std.specs.Prelude.{◌≡◌};
-    ghost use Rattle.rv_join.specs.Collected.{widths_of};
-
-    ghost invariant = { λ p. p.gathered.widths ≡ widths_of p.asked };
+    ghost view = { λ p. record { asked = p.asked; stack = p.stack; gathered = p.gathered; stage = p.stage; reads = p.reads } };
 }
 
 /// The counts of a trace.
@@ -145,7 +140,7 @@ impl Plan {
             }
         };
         let reads = reads_of(stack.first_trace());
-        let gathered = Gathered::new(alloc, &asked);
+        let gathered = Gathered::new(alloc);
         Ok(Plan {
             alloc,
             asked,

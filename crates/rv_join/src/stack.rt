@@ -6,9 +6,8 @@ ghost use Rattle.rv_reader.specs.Shown.{Shown};
 ghost use Rattle.rv_join.specs.declared.places.Asked.{Asked as TheAsked};
 ghost use Rattle.rv_join.specs.Alone.{Fetches, GoesOn, MovedSpends, Spends, StackAsks, StepsOnce, TakesOnce, level_effort};
 ghost use Rattle.rv_join.specs.Asking.{Asks, CanRun};
-ghost use Rattle.rv_join.specs.Collected.{HasWidths, widths_of};
 ghost use Rattle.rv_join.specs.Levels.{AllFit, LevelFits, StackFits, Stacked, bag, down, first_in, first_of, is_last, offered, still, used};
-ghost use Rattle.rv_join.specs.Moves.{Descends, GivesWide, Kept, LevelStays, LevelsStay, Moves, OpensInner, Rises, SameFirst, StackStays, Starts};
+ghost use Rattle.rv_join.specs.Moves.{Descends, Kept, LevelStays, LevelsStay, Moves, OpensInner, Rises, SameFirst, StackStays, Starts};
 ghost use Rattle.rv_join.specs.Pieces.{LevelsAwait, StackAwaits, is_waiting, level_at, pieces_in, stack_builds, waits};
 ghost use Rattle.rv_join.specs.Work.{levels_work, loops_work};
 ghost use Rattle.rv_join.specs.declared.level.Level.{Level as TheLevel};
@@ -192,7 +191,6 @@ impl Stack {
     fn offer(&self, alloc: Global, asked: &Asked) -> Result<Offer, NoMemory>
         requires some { IsSome self.now.at.row }
         ensures is { (row : List OneValue) → self.now.at.row ≡ Some row → IfOk result (λ offer. offer ≡ offered asked.now (self.now.at.outer ++ row ∷ [])) }
-        ensures wide { IfOk result (HasWidths (widths_of asked.now)) }
     {
         match &self.at.row {
             Some(row) => self.at.offer(alloc, asked, row),
@@ -269,7 +267,6 @@ impl Stack {
         requires some { IsSome self.old.at.row }
         requires inside { length self.old.at.outer + 1 < length asked.now.items }
         ensures moves { IfOk result (λ m. Moves asked.now (R.shown reader.now) m self.old self.new) }
-        ensures wide { IfOk result (GivesWide asked.now) }
         ensures first { (first_of self.new).here ≡ (first_of self.old).here }
         ensures goes { GoesOn asked.now (R.shown reader.now) steps.old steps.new self.old self.new }
         ensures err { OnErr result (self.new ≡ self.old) }
@@ -287,7 +284,6 @@ impl Stack {
         requires some { IsSome self.old.at.row }
         requires last { is_last asked.now self.old ≡ true }
         ensures moves { (shown : Shown) → StackFits asked.now shown self.old → IfOk result (λ m. Moves asked.now shown m self.old self.new) }
-        ensures wide { IfOk result (GivesWide asked.now) }
         ensures same { (first_of self.new).here ≡ (first_of self.old).here }
         ensures used { OnOk result (self.new ≡ used self.old) }
         ensures err { OnErr result (self.new ≡ self.old) }
@@ -310,7 +306,6 @@ impl Stack {
         requires fits { StackFits asked.now (R.shown reader.now) self.old }
         requires some { IsSome self.old.at.row }
         ensures moves { IfOk result (λ m. Moves asked.now (R.shown reader.now) m self.old self.new) }
-        ensures wide { IfOk result (GivesWide asked.now) }
         ensures alone { length asked.now.items ≡ 1 → ((first_of self.new).here ≡ (first_of self.old).here) × (steps.new ≡ steps.old) }
         ensures used { length asked.now.items ≡ 1 → OnOk result (self.new ≡ used self.old) }
         ensures first { (first_of self.new).here ≡ (first_of self.old).here }
@@ -328,7 +323,6 @@ impl Stack {
     #[tactic(auto, using(crate::proofs::Stacking::climbs, crate::proofs::Stacking::ends, crate::proofs::OneItem::climbed_first))]
     fn end(&mut self) -> Moved
         ensures moves { (a : TheAsked) (shown : Shown) → StackFits a shown self.old → still a shown self.old.at ≡ [] → Moves a shown result self.old self.new }
-        ensures wide { (a : TheAsked) → GivesWide a result }
         ensures alone { self.old.above ≡ [] → self.new ≡ self.old }
         ensures first { first_of self.new ≡ first_of self.old }
         ensures done { self.old.above ≡ [] → result ≡ Moved.Done }
@@ -355,7 +349,6 @@ impl Stack {
         requires can { CanRun asked.now (R.shown reader.now) }
         requires fits { StackFits asked.now (R.shown reader.now) self.old }
         ensures moves { IfOk result (λ m. Moves asked.now (R.shown reader.now) m self.old self.new) }
-        ensures wide { IfOk result (GivesWide asked.now) }
         ensures alone { length asked.now.items ≡ 1 → Rises (first_of self.old).here (first_of self.new).here steps.old steps.new }
         ensures stays { would judge.new ≡ would judge.old }
         ensures asks { StackAsks (would judge.old) (state judge.old) (state judge.new) asked.now (R.shown reader.now) steps.old steps.new self.old self.new }

@@ -1,14 +1,13 @@
-use Rattle.std.proofs.Common.{ap, rules}
-use Rattle.rv_join.specs.Collected.{Collected}
+use Rattle.std.proofs.Common.{rules}
 use Rattle.rv_join.proofs.Collecting.{first_more}
 use Rattle.rv_join.proofs.Planning.{gathered_more, moving_is}
 use Rattle.rv_join.proofs.gather.Gathered.gather.Goals as goal
 
 pub returns-in-Gave-clause-gathers : goal.returns-in-Gave-clause-gathers
-returns-in-Gave-clause-gathers g c = gathered_more c.args.asked.now (g.R.Reader.shown c.args.reader.now) c.in-Gave.offer c.args.stack.now c.advance.new.self c.args.self.now.offers _ (rw c.in-Gave.is at c.in_ok-offer.ensures.moves) (first_more c.self.inside.offers.items c.reserve.new.self.items c.in-Gave.offer c.args.self.now.offers _ (search rules) (ap (λ (v : Collected). v.offers) c.self.view_is) c.keep.ensures)
+returns-in-Gave-clause-gathers g c = gathered_more c.args.asked.now (g.R.Reader.shown c.args.reader.now) c.in-Gave.offer c.args.stack.now c.advance.new.self c.args.self.now _ (rw c.in-Gave.is at c.in_ok-offer.ensures.moves) (first_more c.self.inside.offers.items c.reserve.new.self.items c.in-Gave.offer c.args.self.now _ (search rules) c.self.view_is c.keep.ensures)
 
 pub returns-in-Moving-clause-gathers : goal.returns-in-Moving-clause-gathers
-returns-in-Moving-clause-gathers g c = moving_is c.args.asked.now (g.R.Reader.shown c.args.reader.now) c.args.stack.now c.advance.new.self c.args.self.now.offers _ (rw c.in-Moving.is at c.in_ok-offer.ensures.moves) (search rules)
+returns-in-Moving-clause-gathers g c = moving_is c.args.asked.now (g.R.Reader.shown c.args.reader.now) c.args.stack.now c.advance.new.self c.args.self.now _ (rw c.in-Moving.is at c.in_ok-offer.ensures.moves) (search rules)
 
 pub returns-in-Gave-clause-spends : goal.returns-in-Gave-clause-spends
 returns-in-Gave-clause-spends g c = λ one. (let spends = c.in_ok-offer.ensures.spends one in rw c.in-Gave.is at spends)

@@ -12,7 +12,7 @@ advance-requires g c =
 
 pub returns-in_ok-moved-in-AsFound-clause-step : goal.returns-in_ok-moved-in-AsFound-clause-step
 returns-in_ok-moved-in-AsFound-clause-step g c =
-    let old : Planned = record { asked = c.self.inside.asked; stack = c.self.inside.stack; gathered = c.self.inside.gathered.offers; stage = c.self.inside.stage; reads = c.self.inside.reads } in
+    let old : Planned = record { asked = c.self.inside.asked; stack = c.self.inside.stack; gathered = c.self.inside.gathered; stage = c.self.inside.stage; reads = c.self.inside.reads } in
     let shown = g.R.Reader.shown c.args.reader.now in
     let holds = rw (← c.self.view_is) at c.requires.fits in
     let found = rw (← c.self.view_is) at (sym c.stage.ensures ∙ c.in-AsFound.is) in
@@ -20,7 +20,7 @@ returns-in_ok-moved-in-AsFound-clause-step g c =
 
 pub returns-in_ok-moved-in-AsFound-clause-holds : goal.returns-in_ok-moved-in-AsFound-clause-holds
 returns-in_ok-moved-in-AsFound-clause-holds g c =
-    let old : Planned = record { asked = c.self.inside.asked; stack = c.self.inside.stack; gathered = c.self.inside.gathered.offers; stage = c.self.inside.stage; reads = c.self.inside.reads } in
+    let old : Planned = record { asked = c.self.inside.asked; stack = c.self.inside.stack; gathered = c.self.inside.gathered; stage = c.self.inside.stage; reads = c.self.inside.reads } in
     let shown = g.R.Reader.shown c.args.reader.now in
     let holds = rw (← c.self.view_is) at c.requires.fits in
     let found = rw (← c.self.view_is) at (sym c.stage.ensures ∙ c.in-AsFound.is) in
@@ -49,7 +49,7 @@ returns-in_ok-moved-in-AsFound-clause-reads g c = rw (← c.self.view_is) refl
 
 pub returns-in_err-moved-in-AsFound-clause-holds : goal.returns-in_err-moved-in-AsFound-clause-holds
 returns-in_err-moved-in-AsFound-clause-holds g c =
-    let old : Planned = record { asked = c.self.inside.asked; stack = c.self.inside.stack; gathered = c.self.inside.gathered.offers; stage = c.self.inside.stage; reads = c.self.inside.reads } in
+    let old : Planned = record { asked = c.self.inside.asked; stack = c.self.inside.stack; gathered = c.self.inside.gathered; stage = c.self.inside.stage; reads = c.self.inside.reads } in
     let shown = g.R.Reader.shown c.args.reader.now in
     let holds = rw (← c.self.view_is) at c.requires.fits in
     let found = rw (← c.self.view_is) at (sym c.stage.ensures ∙ c.in-AsFound.is) in

@@ -181,9 +181,6 @@ returns-in-Ready-clause-fetches g c =
     let mid : Stacked = record old { at = c.ready.new.self } in
     rw (← c.self.view_is) (λ one. uses_fetches c.use_row.result (g.R.Reader.shown c.args.reader.now) c.args.steps.now c.ready.new.steps c.use_row.new.steps old.at.here mid c.use_row.new.self (c.use_row.ensures.used one) (c.use_row.ensures.alone one).1 c.in_ok-ready.ensures.fetches)
 
-pub returns-in-Ended-clause-wide : goal.returns-in-Ended-clause-wide
-returns-in-Ended-clause-wide g c = c.end.ensures.wide c.args.asked.now
-
 pub ready-requires-clause-fits : goal.ready-requires-clause-fits
 ready-requires-clause-fits g c =
     let fits = rw (← c.self.view_is) at c.requires.fits in
