@@ -3,7 +3,7 @@ use Rattle.std.proofs.Common.{◌≡◌, ℕ, ◌+◌, ◌<◌, ◌≤◌, List,
 use Rattle.std.proofs.lemmas.List.{get_or-set_other, get_or-set_same, length-append}
 use Rattle.std.proofs.lemmas.List.Sorted.{length_permutation}
 use Rattle.rv_value.proofs.Lists.{filter_length}
-use Rattle.rv_keylist.specs.Keys.{may_key}
+use Rattle.rv_keylist.specs.Marks.{may_key}
 use Rattle.rv_reader.specs.declared.reader.Chunk.{Chunk}
 use Rattle.rv_jscan.specs.declared.jscan.ScanCounts.{ScanCounts}
 use Rattle.rv_jscan.specs.Joint.{counts_at, no_counts}

@@ -12,8 +12,8 @@ use Rattle.rv_model.specs.declared.transactions.Transaction.{Transaction}
 use Rattle.rv_model.specs.declared.transactions.Transactions.{Transactions}
 use Rattle.rv_model.specs.Offers.{offers_in_order}
 use Rattle.rv_view.specs.Sights.{LaysSome, laid_over}
-use Rattle.rv_snapshot.specs.Alone.{alone}
-use Rattle.rv_snapshot.proofs.Staying.{alone_stays}
+use Rattle.rv_view.specs.Alone.{alone}
+use Rattle.rv_view.proofs.Staying.{alone_stays}
 use Rattle.rv_join.specs.Asking.{item_at}
 use Rattle.rv_join.specs.Order.{IsLeastOf}
 use Rattle.rv_join.specs.Plans.{PlanFits, plan_rest}

@@ -17,8 +17,8 @@ use Rattle.rv_reader.specs.Entries.{entries_of}
 use Rattle.rv_reader.specs.Shown.{Shown, IsSnapshot, CanRead, CanScan}
 use Rattle.rv_reader.specs.Storing.{AreColumns, AreKeys, IsStored}
 use Rattle.rv_model.specs.declared.transactions.Transactions.{Transactions}
-use Rattle.rv_snapshot.specs.Alone.{alone}
-use Rattle.rv_snapshot.proofs.Staying.{reads_alone, same_cuts, same_entries, same_rows, scans_alone}
+use Rattle.rv_view.specs.Alone.{alone}
+use Rattle.rv_view.proofs.Staying.{reads_alone, same_cuts, same_entries, same_rows, scans_alone}
 use Rattle.rv_join.specs.Asking.{CanPlan, IsIndexAt, have_column, index_at, indexes_from, select_uses, table_at}
 use Rattle.rv_join.proofs.Naming.{used_passes, have_wide}
 use Rattle.rv_core.specs.Db.{IsTied}

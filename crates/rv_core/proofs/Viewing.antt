@@ -27,8 +27,8 @@ use Rattle.rv_view.specs.Making.{Keeps, KeepsPart}
 use Rattle.rv_view.specs.Sights.{LaysSome}
 use Rattle.rv_view.proofs.Laying.{lays_kept}
 use Rattle.rv_rivals.proofs.Telling.{keys_all, keys_marks}
-use Rattle.rv_snapshot.specs.Alone.{alone}
-use Rattle.rv_snapshot.proofs.Staying.{can_read, can_scan, reads_alone, same_cuts, same_entries, same_pages, same_rows}
+use Rattle.rv_view.specs.Alone.{alone}
+use Rattle.rv_view.proofs.Staying.{can_read, can_scan, reads_alone, same_cuts, same_entries, same_pages, same_rows}
 use Rattle.rv_join.specs.Asking.{CanPlan, have_column, index_at, select_uses, table_at}
 use Rattle.rv_cursor.specs.Left.{seen_at}
 use Rattle.rv_core.specs.Db.{IsOwn, IsTied, IsViewed, view_at}

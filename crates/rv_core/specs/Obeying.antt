@@ -24,7 +24,7 @@ use Rattle.rv_txn.specs.Calls.{writing}
 use Rattle.rv_overlay.specs.declared.frozen.Frozen.{Frozen}
 use Rattle.rv_own.specs.Views.{Freezes}
 use Rattle.rv_view.specs.Sights.{LaysSome}
-use Rattle.rv_snapshot.specs.Alone.{alone}
+use Rattle.rv_view.specs.Alone.{alone}
 use Rattle.rv_choice.specs.Asked.{CanAsk}
 use Rattle.rv_access.specs.Accesses.{Settled, fetches_left, query_of}
 use Rattle.rv_retrieval.specs.Short.{has_short}

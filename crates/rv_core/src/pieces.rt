@@ -19,8 +19,8 @@ use rv_cursor::{Open, Sight};
 use rv_jscan::{Given, PieceId, Sieved, Taken};
 use rv_judge::{Judge, Steps, Uncounted};
 use rv_reader::{Reader, Store};
-use rv_snapshot::Snapshot;
 use rv_value::{Items, NoMemory};
+use rv_view::Snapshot;
 
 fn is_waiting(cursor: &Open) -> bool
     ensures { result ≡ is_waiting cursor.now }

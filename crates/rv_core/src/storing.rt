@@ -10,7 +10,7 @@ ghost use Rattle.rv_txn.specs.Calls.{IsFault, finished, writing};
 ghost use Rattle.rv_txn.specs.Changing.{CanChange, OnlyPages};
 ghost use Rattle.rv_txn.specs.Halves.{changing, with_these};
 ghost use Rattle.rv_view.specs.Sights.{LaysSome};
-ghost use Rattle.rv_snapshot.specs.Alone.{alone};
+ghost use Rattle.rv_view.specs.Alone.{alone};
 ghost use Rattle.rv_choice.specs.Asked.{CanAsk};
 ghost use Rattle.rv_final.specs.Rest.{qualifying};
 ghost use Rattle.rv_retrieval.specs.Short.{has_short};
@@ -39,10 +39,9 @@ use rv_restrict::Restriction;
 use rv_rivals::no_rivals;
 use rv_rows::Change;
 use rv_search::{any_narrows, found_rows};
-use rv_snapshot::Snapshot;
 use rv_txn::{Finished, TxnFault, Txns, met_rows};
 use rv_value::{Duplicate, Items, NoMemory, Record, RowNo, Value, Values};
-use rv_view::View;
+use rv_view::{Snapshot, View};
 use std::alloc::Global;
 
 /// A table more in both. Without memory neither has it.

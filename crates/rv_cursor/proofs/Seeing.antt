@@ -2,8 +2,8 @@
 use Rattle.std.proofs.Common.{◌≡◌, ◌∙◌, ℕ, Option, None, ap, subst, sym}
 use Rattle.rv_value.specs.declared.range.Range.{Range}
 use Rattle.rv_reader.specs.Shown.{Shown, CanRead, CanScan, Suits}
-use Rattle.rv_snapshot.specs.Alone.{alone}
-use Rattle.rv_snapshot.proofs.Staying.{can_read, can_scan, same_cuts, same_entries, same_estimate, same_pages, same_rows, suits_own}
+use Rattle.rv_view.specs.Alone.{alone}
+use Rattle.rv_view.proofs.Staying.{can_read, can_scan, same_cuts, same_entries, same_estimate, same_pages, same_rows, suits_own}
 use Rattle.rv_overlay.specs.declared.frozen.Frozen.{Frozen}
 use Rattle.rv_view.specs.Sights.{laid_over}
 

@@ -5,7 +5,7 @@ use Rattle.rv_model.specs.declared.state.Offer.{Offer}
 use Rattle.rv_model.specs.Offers.{offers_in_order}
 use Rattle.rv_model.specs.Step.{Offers, offers_after}
 use Rattle.rv_reader.specs.Shown.{Shown}
-use Rattle.rv_snapshot.specs.Alone.{alone}
+use Rattle.rv_view.specs.Alone.{alone}
 use Rattle.rv_overlay.specs.declared.frozen.Frozen.{Frozen}
 use Rattle.rv_view.specs.Sights.{LaysSome, laid_over}
 use Rattle.rv_join.specs.Order.{IsLeastOf}

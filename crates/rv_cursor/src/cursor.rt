@@ -11,7 +11,7 @@ ghost use Rattle.rv_join.specs.Plans.{LeadsWith, plan_trace, plan_work, stage_of
 ghost use Rattle.rv_join.specs.Work.{row_cost};
 ghost use Rattle.rv_model.specs.Offering.{offers_over};
 ghost use Rattle.rv_model.specs.Offers.{offers_in_order};
-ghost use Rattle.rv_snapshot.specs.Alone.{alone};
+ghost use Rattle.rv_view.specs.Alone.{alone};
 ghost use Rattle.rv_view.specs.Sights.{LaysSome};
 ghost use Rattle.rv_join.specs.Pieces.{plan_awaited};
 ghost use Rattle.rv_cursor.specs.Left.{CursorFits, Stays, left, seen_at, seen_by, work};
@@ -24,9 +24,8 @@ use rv_jscan::{Taken, sieve};
 use rv_judge::{Judge, Steps};
 use rv_model::Offer;
 use rv_reader::Reader;
-use rv_snapshot::Snapshot;
 use rv_value::{NoMemory, Text};
-use rv_view::View;
+use rv_view::{Snapshot, View};
 use std::alloc::Global;
 
 /// An open cursor of a session over a snapshot, with the view that its transaction had when it was

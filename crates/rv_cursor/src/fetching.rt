@@ -14,8 +14,8 @@ use rv_judge::{Judge, Steps};
 use rv_lang::Reply;
 use rv_model::Offer;
 use rv_reader::Reader;
-use rv_snapshot::Snapshot;
 use rv_value::{Duplicate, NoMemory, Values};
+use rv_view::Snapshot;
 use std::alloc::Global;
 
 /// The replies of the offer that was in hand: its row, which moves into the first, and a copy of it.

@@ -1,13 +1,12 @@
 //! What a cursor reads: one snapshot, under what a transaction froze where it had changes.
-ghost use Rattle.rv_snapshot.specs.Alone.{alone};
+ghost use Rattle.rv_view.specs.Alone.{alone};
 ghost use Rattle.rv_view.specs.Sights.{LaysSome, lays_some-prop};
 
 use rv_judge::Steps;
 use rv_overlay::Overlay;
 use rv_reader::{Chunk, Estimate, Reader, Sizes};
-use rv_snapshot::Snapshot;
 use rv_value::{IndexEntry, NoMemory, Range, Record, RowNo};
-use rv_view::View;
+use rv_view::{Snapshot, View};
 use std::alloc::Global;
 
 /// What a cursor reads, and UPDATE and DELETE search: a reader at one snapshot alone, with a transaction's view laid over
@@ -21,7 +20,7 @@ pub struct Sight<'a, R: Reader> {
 }
 
 impl<'a, R: Reader> Reader for Sight<'a, R> {
-    ghost use Rattle.rv_snapshot.specs.Alone.{alone};
+    ghost use Rattle.rv_view.specs.Alone.{alone};
     ghost use Rattle.rv_view.specs.Sights.{laid_over};
 
     type Ledger = R::Ledger;

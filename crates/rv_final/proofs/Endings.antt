@@ -2,7 +2,7 @@
 use Rattle.std.proofs.Common.{◌≡◌, ◌⊎◌, ℕ, ◌-◌, List, [], Bool, true, false, not, ◌&&◌, Option, None, refl, ap, sym, ◌∙◌, arith, subst, inl, inr, Result, Ok, Err, IfOk}
 use Rattle.rv_value.specs.declared.record.Record.{Record}
 use Rattle.rv_rows.specs.Rows.{Ascend}
-use Rattle.rv_keys.specs.Keys.{has_key}
+use Rattle.rv_keylist.specs.Keys.{has_key}
 use Rattle.rv_judge.specs.declared.counting.Counts.{Counts}
 use Rattle.rv_judge.specs.declared.events.Control.{Control}
 use Rattle.rv_judge.specs.declared.events.Control.TheVariants.{FinalList, FinalTable, Done}

@@ -8,8 +8,8 @@ use Rattle.rv_value.proofs.Tests.{same_number}
 use Rattle.rv_value.specs.declared.record.Record.{Record}
 use Rattle.rv_value.specs.declared.record.RowNo.{RowNo}
 use Rattle.rv_rows.specs.Rows.{Ascend}
-use Rattle.rv_keys.specs.Keys.{has_key, Once}
-use Rattle.rv_keys.proofs.Onces.{Once-head, Once-tail}
+use Rattle.rv_keylist.specs.Keys.{has_key, Once}
+use Rattle.rv_keylist.proofs.Onces.{Once-head, Once-tail}
 use Rattle.rv_judge.specs.Counting.{one_more, reads, record_read}
 use Rattle.rv_judge.specs.declared.counting.Counts.{Counts}
 use Rattle.rv_restrict.specs.declared.atom.Atom.{Atom}

@@ -15,9 +15,8 @@ ghost use Rattle.rv_final.specs.Stage.{FetchesKey, IsFirstKey, KeyAt, PassesKeys
 ghost use Rattle.rv_final.specs.Work.{Falls, Tries};
 ghost use Rattle.rv_scan.specs.Reads.{OneAtMost};
 
-use rv_delivered::Delivered;
 use rv_judge::Steps;
-use rv_keylist::KeyList;
+use rv_keylist::{Delivered, KeyList};
 use rv_reader::Reader;
 use rv_restrict::{Restriction, Tri};
 use rv_scan::{Scanned, Skip, Tscan};

@@ -6,3 +6,6 @@ pub mod Places
 pub mod Rooting
 pub mod Starting
 pub mod Finding
+mod Empty
+pub mod Exact
+pub mod Steps

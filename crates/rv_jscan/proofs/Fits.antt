@@ -5,7 +5,7 @@ use Rattle.std.proofs.lemmas.List.{get_or-set_other, get_or-set_same}
 use Rattle.std.proofs.lemmas.List.Sorted.{list_any-IsPermutation}
 use Rattle.std.proofs.Math.Bool.{or-false}
 use Rattle.rv_value.specs.declared.record.IndexEntry.{IndexEntry}
-use Rattle.rv_keys.specs.Keys.{has_key}
+use Rattle.rv_keylist.specs.Keys.{has_key}
 use Rattle.rv_keylist.proofs.Bits.{may_key-never_denies}
 use Rattle.rv_reader.specs.declared.reader.Chunk.{Chunk}
 use Rattle.rv_reader.specs.Leaves.{run_after}

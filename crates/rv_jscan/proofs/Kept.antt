@@ -9,11 +9,11 @@ use Rattle.rv_value.proofs.Tests.{other_false}
 use Rattle.rv_value.specs.declared.record.IndexEntry.{IndexEntry}
 use Rattle.rv_value.specs.declared.record.RowNo.{RowNo}
 use Rattle.rv_restrict.specs.Parts.{Parted, passes}
-use Rattle.rv_keys.specs.Keys.{has_key}
-use Rattle.rv_keylist.specs.Keys.{may_key}
+use Rattle.rv_keylist.specs.Keys.{has_key}
+use Rattle.rv_keylist.specs.Marks.{may_key}
 use Rattle.rv_keylist.proofs.Narrow.{none_stays}
 use Rattle.rv_reader.specs.declared.reader.Chunk.{Chunk}
-use Rattle.rv_keys.proofs.Onces.{key_append}
+use Rattle.rv_keylist.proofs.Onces.{key_append}
 use Rattle.rv_jscan.specs.Entries.{has_entry, Apart, Disjoint}
 use Rattle.rv_jscan.specs.Pieces.{kept_by, is_kept}
 use Rattle.rv_jscan.specs.Joint.{passing}

@@ -2,7 +2,7 @@
 use Rattle.std.specs.Prelude.{◌≡◌, ℕ, ◌+◌, ◌<◌, ◌≤◌, Bool, true, false, not, ◌&&◌, ◌||◌, List, [], ◌∷◌, length, filter, drop, nat_lt, nat_eq, Option, Some, None, IfSome}
 use Rattle.std.specs.List.{slice_index_or}
 use Rattle.rv_value.specs.declared.record.IndexEntry.{IndexEntry}
-use Rattle.rv_keys.specs.Keys.{has_key}
+use Rattle.rv_keylist.specs.Keys.{has_key}
 use Rattle.rv_keylist.specs.Listed.{Listed}
 use Rattle.rv_restrict.specs.Parts.{Parted, passes}
 use Rattle.rv_reader.specs.declared.reader.Chunk.{Chunk}

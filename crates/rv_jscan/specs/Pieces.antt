@@ -3,7 +3,7 @@ use Rattle.std.specs.Prelude.{◌≡◌, ℕ, ◌≤◌, List, Bool, true, ◌&&
 use Rattle.rv_value.specs.declared.record.IndexEntry.{IndexEntry}
 use Rattle.rv_restrict.specs.Parts.{Parted, passes}
 use Rattle.rv_reader.specs.Storing.{AreKeys}
-use Rattle.rv_keylist.specs.Keys.{may_key}
+use Rattle.rv_keylist.specs.Marks.{may_key}
 use Rattle.rv_jscan.specs.declared.piece.PieceId.{PieceId}
 
 -- the piece's name, its entries, and the part of the restriction by which they are sieved

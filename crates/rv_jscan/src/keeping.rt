@@ -2,7 +2,7 @@ ghost use Rattle.std.specs.Prelude.{◌≡◌, ℕ, ◌+◌, ◌<◌, ◌≤◌,
 ghost use Rattle.std.specs.List.{slice_index_or};
 ghost use Rattle.std.specs.Option.{option_copied};
 ghost use Rattle.rv_value.specs.declared.record.IndexEntry.{IndexEntry as OneEntry};
-ghost use Rattle.rv_keys.specs.Keys.{has_key};
+ghost use Rattle.rv_keylist.specs.Keys.{has_key};
 ghost use Rattle.rv_restrict.specs.Parts.{passes};
 ghost use Rattle.rv_reader.specs.Storing.{AreKeys};
 ghost use Rattle.rv_jscan.specs.Entries.{Apart, Disjoint};

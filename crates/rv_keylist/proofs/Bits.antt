@@ -4,9 +4,9 @@ use Rattle.std.proofs.lemmas.Bool.{cond_both, or_cases, or_left, or_right, eq-eq
 use Rattle.std.proofs.lemmas.List.Folds.{list_any-append, list_any_more}
 use Rattle.std.proofs.lemmas.List.Sorted.{list_any-IsPermutation}
 use Rattle.std.proofs.Math.Bool.{or-false}
-use Rattle.rv_filter.specs.Bits.{bit_of, is_set, holds, SetsBit}
-use Rattle.rv_keys.specs.Keys.{has_key}
-use Rattle.rv_keylist.specs.Keys.{has_bit, may_key, Marks}
+use Rattle.rv_keylist.specs.Bits.{bit_of, is_set, holds, SetsBit}
+use Rattle.rv_keylist.specs.Keys.{has_key}
+use Rattle.rv_keylist.specs.Marks.{has_bit, may_key, Marks}
 use Rattle.rv_keylist.specs.Whole.{AddsBits}
 
 or_assoc : (a b c : Bool) → ((a || b) || c) ≡ (a || (b || c))

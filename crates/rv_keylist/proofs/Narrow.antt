@@ -4,9 +4,9 @@ use Rattle.std.proofs.lemmas.Bool.{cases_Bool, eqb-true}
 use Rattle.std.proofs.lemmas.List.{length-append}
 use Rattle.std.proofs.lemmas.List.Elements.{filter-append}
 use Rattle.rv_value.proofs.Lists.{filter_length}
-use Rattle.rv_keys.specs.Keys.{has_key, Once}
-use Rattle.rv_keys.proofs.Onces.{Once-nil, Once-cons, Once-head, Once-tail}
-use Rattle.rv_keylist.specs.Keys.{Marks, may_key}
+use Rattle.rv_keylist.specs.Keys.{has_key, Once}
+use Rattle.rv_keylist.proofs.Onces.{Once-nil, Once-cons, Once-head, Once-tail}
+use Rattle.rv_keylist.specs.Marks.{Marks, may_key}
 use Rattle.rv_keylist.specs.Whole.{Moves, Placed, Whole}
 
 pub none_stays : (p : ℕ → Bool) (n : ℕ) (xs : List ℕ) → has_key n xs ≡ false → has_key n (filter p xs) ≡ false

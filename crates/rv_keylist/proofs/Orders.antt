@@ -8,9 +8,9 @@ use Rattle.std.proofs.lemmas.Bool.{cases_eq}
 use Rattle.std.proofs.lemmas.List.{append-nil, nil_from_length}
 use Rattle.std.proofs.lemmas.List.Sorted.{length_permutation, IsPermutation-append, IsNonDecreasingBy-from_sort}
 use Rattle.std.proofs.lemmas.Map.Keys.{IsStrictlyIncreasing-from_distinct}
-use Rattle.rv_keys.specs.Keys.{has_key, Once}
-use Rattle.rv_keys.proofs.Onces.{Once-nil, Once-push, Once-IsPermutation}
-use Rattle.rv_keylist.specs.Keys.{Marks}
+use Rattle.rv_keylist.specs.Keys.{has_key, Once}
+use Rattle.rv_keylist.proofs.Onces.{Once-nil, Once-push, Once-IsPermutation}
+use Rattle.rv_keylist.specs.Marks.{Marks}
 use Rattle.rv_keylist.specs.Whole.{Placed, Whole}
 use Rattle.rv_keylist.proofs.Bits.{Marks-IsPermutation}
 

@@ -1,17 +1,17 @@
--- Which rows may be among the keys, and the bits that keys set in a filter.
-use Rattle.std.specs.Prelude.{◌≡◌, ℕ, List, Bool, ◌==◌, nat_le, if◌then◌else◌, length}
-use Rattle.std.specs.List.{list_any}
-use Rattle.rv_filter.specs.Bits.{bit_of, is_set}
-use Rattle.rv_keys.specs.Keys.{has_key}
+-- Lists of row numbers as keys.
+use Rattle.std.specs.Prelude.{ℕ, ◌<◌, ◌≤◌, List, Bool, nat_eq, length, slice_index_or}
+use Rattle.std.specs.List.{list_any, IsDistinct}
 
--- whether some key has this bit of the filter
-abbrev pub has_bit : ℕ → List ℕ → Bool
-has_bit bit keys = list_any (λ k. bit == bit_of k) keys
+-- whether a row is among the keys
+abbrev pub has_key : ℕ → List ℕ → Bool
+has_key row keys = list_any (nat_eq row) keys
 
--- what may be in a list: up to 1,024 keys are known each, and of more keys the bits
-abbrev pub may_key : ℕ → List ℕ → Bool
-may_key row keys = if nat_le (length keys) 1024 then has_key row keys else has_bit (bit_of row) keys
+-- each key stands once
+abbrev pub Once : List ℕ → Type 0
+Once keys = IsDistinct nat_eq keys
 
--- a filter's words have the bits of these keys and no other
-pub record Marks (words : List ℕ) (keys : List ℕ) : Type 0 where
-  pub bits : (b : ℕ) → is_set words b ≡ has_bit b keys
+-- where a row stands among ascending keys: those before the place are lower, and those from it on higher
+pub record IsPlace (keys : List ℕ) (row at : ℕ) : Type 0 where
+  pub within : at ≤ length keys
+  pub lower : (k : ℕ) → k < at → slice_index_or keys k 0 < row
+  pub higher : (k : ℕ) → at ≤ k → k < length keys → row < slice_index_or keys k 0

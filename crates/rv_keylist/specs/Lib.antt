@@ -1,3 +1,6 @@
 pub mod Listed
-pub mod Keys
+pub mod Marks
 pub mod Whole
+pub mod Keys
+pub mod Bits
+pub mod Rows

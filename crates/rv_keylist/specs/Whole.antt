@@ -1,9 +1,9 @@
 -- What the parts of a key list keep.
 use Rattle.std.specs.Prelude.{◌≡◌, ℕ, List, [], ◌++◌, ◌+◌, ◌<◌, ◌≤◌, length, Bool, true, Option, IsSome, IfSome, ◌||◌}
 use Rattle.std.specs.List.Sorted.{IsStrictlyIncreasing}
-use Rattle.rv_filter.specs.Bits.{is_set}
-use Rattle.rv_keys.specs.Keys.{Once}
-use Rattle.rv_keylist.specs.Keys.{Marks, has_bit}
+use Rattle.rv_keylist.specs.Bits.{is_set}
+use Rattle.rv_keylist.specs.Keys.{Once}
+use Rattle.rv_keylist.specs.Marks.{Marks, has_bit}
 
 -- The keys are few, in the fixed buffer, or many, in the vector.
 pub record Placed (few many : List ℕ) : Type 0 where

@@ -1,20 +1,25 @@
-//! Lists of record keys in three stages: a fixed buffer, one vector, and a longer vector with a filter.
+//! Row numbers as keys. `KeyList` is a list of record keys in three stages: a fixed buffer, one vector, and a longer vector with a
+//! filter; `Delivered` is the buffer of rows that a foreground delivered; both are searched by `is_among`.
 #![tactic(auto)]
 
 ghost use Rattle.std.specs.Prelude.{◌≡◌, ℕ, ◌+◌, ◌-◌, ◌<◌, ◌≤◌, ◌++◌, ◌∷◌, ◌||◌, [], List, max, filter, length, slice_get, Some, IsOk, IfOk, OnOk, OnErr, IsPermutation, ◌==◌, true, false};
 ghost use Rattle.std.specs.List.Sorted.{IsStrictlyIncreasing};
 ghost use Rattle.rv_keylist.specs.Listed.{stage_of};
-ghost use Rattle.rv_keylist.specs.Keys.{may_key};
-ghost use Rattle.rv_keys.specs.Keys.{has_key, Once};
+ghost use Rattle.rv_keylist.specs.Marks.{may_key};
+ghost use Rattle.rv_keylist.specs.Keys.{has_key, Once};
 
+mod delivered;
+mod filter;
+mod keys;
 mod narrowing;
 mod parts;
 
+use crate::filter::Filter;
 use crate::narrowing::{move_back, narrow_few, narrow_many, remark};
 use crate::parts::{MANY, keys_of, make_filter, make_room, mark, put_key, sort_few, sort_many};
 use arrayvec::ArrayVec;
-use rv_filter::Filter;
-use rv_keys::is_among;
+pub use delivered::Delivered;
+pub use keys::{is_among, place_of};
 use rv_value::{NoMemory, RowNo};
 use std::alloc::Global;
 use std::marker::Model;

@@ -2,13 +2,13 @@
 
 ghost use Rattle.std.specs.Prelude.{◌≡◌, ◌+◌, ◌<◌, ◌≤◌, ◌++◌, ◌∷◌, [], filter, length, true, IsSome, IfSome};
 ghost use Rattle.std.specs.Vec.{vec_capacity};
-ghost use Rattle.rv_keylist.specs.Keys.{Marks, may_key};
+ghost use Rattle.rv_keylist.specs.Marks.{Marks, may_key};
 ghost use Rattle.rv_keylist.specs.Whole.{Moves};
 
 use crate::KeyList;
+use crate::filter::Filter;
 use crate::parts::{FEW, fill};
 use arrayvec::ArrayVec;
-use rv_filter::Filter;
 use rv_value::RowNo;
 use std::mem;
 

@@ -4,12 +4,12 @@ ghost use Rattle.std.specs.Prelude.{◌≡◌, ℕ, ◌+◌, ◌<◌, ◌≤◌,
 ghost use Rattle.std.specs.List.Sorted.{IsNonDecreasing};
 ghost use Rattle.std.specs.Vec.{vec_capacity};
 ghost use Rattle.arrayvec.specs.ArrayVec.{array_vec_len};
-ghost use Rattle.rv_filter.specs.Bits.{is_set};
-ghost use Rattle.rv_keylist.specs.Keys.{Marks};
+ghost use Rattle.rv_keylist.specs.Bits.{is_set};
+ghost use Rattle.rv_keylist.specs.Marks.{Marks};
 ghost use Rattle.rv_keylist.specs.Whole.{Placed, AddsBits};
 
+use crate::filter::Filter;
 use arrayvec::ArrayVec;
-use rv_filter::Filter;
 use rv_value::NoMemory;
 use std::alloc::Global;
 

@@ -7,8 +7,8 @@ use Rattle.std.proofs.lemmas.List.Sorted.{IsPermutation-append_comm, IsPermutati
 use Rattle.std.proofs.lemmas.Option.{get_or_from_slice_get, slice_get_within}
 use Rattle.std.proofs.lemmas.Bool.{and_right, or_from, or_left, or_right}
 use Rattle.rv_value.proofs.Tests.{right_false, other_false, same_number}
-use Rattle.rv_keys.specs.Keys.{has_key, Once}
-use Rattle.rv_keys.proofs.Onces.{Once-cons, Once-head, Once-IsPermutation, Once-nil, Once-tail, key_append}
+use Rattle.rv_keylist.specs.Keys.{has_key, Once}
+use Rattle.rv_keylist.proofs.Onces.{Once-cons, Once-head, Once-IsPermutation, Once-nil, Once-tail, key_append}
 use Rattle.rv_keylist.specs.Listed.{Listed}
 use Rattle.rv_keyset.specs.Sets.{AreApart, AreFinished, AreRuns, Keyed, Pours, flat}
 
@@ -54,7 +54,6 @@ key_there (x ∷ keys) zero k e = or_left (nat_eq k x) (has_key k keys) (same k 
   where
     same : (a b : ℕ) → b ≡ a → nat_eq a b ≡ true
     same a b e = grind (arith, nat_tests)
-
 key_there (x ∷ keys) (suc i) k e = or_right (nat_eq k x) (has_key k keys) (key_there keys i k e)
 
 key_new : (keys : List ℕ) (i k : ℕ) → Once keys → slice_get keys i ≡ Some k → has_key k (take i keys) ≡ false

@@ -9,8 +9,8 @@ use Rattle.std.proofs.lemmas.Bool.Decides.{nat_tests}
 use Rattle.std.proofs.lemmas.List.Sorted.{IsPermutation-append_comm, IsPermutation-append_left, IsPermutation-cons, IsPermutation-refl, IsPermutation-trans, length_permutation, list_any-IsPermutation}
 use Rattle.std.proofs.lemmas.Map.Keys.{IsStrictlyIncreasing-from_sorted, below_from_sorted, sorted_from_strictly_increasing}
 use Rattle.rv_value.proofs.Tests.{same_number}
-use Rattle.rv_keys.specs.Keys.{has_key, Once}
-use Rattle.rv_keys.proofs.Onces.{Once-ascending, Once-head, Once-tail}
+use Rattle.rv_keylist.specs.Keys.{has_key, Once}
+use Rattle.rv_keylist.proofs.Onces.{Once-ascending, Once-head, Once-tail}
 use Rattle.rv_keyset.specs.Sets.{ascending, placed}
 
 -- the same keys

@@ -1,7 +1,7 @@
 -- A key set as contracts see it, and the lists in which its keys stand.
 use Rattle.std.specs.Prelude.{◌≡◌, ℕ, ◌<◌, ◌≤◌, ◌++◌, ◌∷◌, ◌^◌, ◌&&◌, Bool, true, false, [], List, length, nat_lt, if◌then◌else◌}
 use Rattle.std.specs.List.{AllByRecursion}
-use Rattle.rv_keys.specs.Keys.{has_key, Once}
+use Rattle.rv_keylist.specs.Keys.{has_key, Once}
 use Rattle.rv_keylist.specs.Listed.{Listed}
 
 -- its keys, ascending, and whether they stand in one list

@@ -3,7 +3,7 @@
 
 ghost use Rattle.std.specs.Prelude.{◌≡◌, ◌+◌, ◌<◌, ◌≤◌, ◌++◌, ◌^◌, [], true, false, length, IfOk, IsOk, OnOk, OnErr, IsPermutation};
 ghost use Rattle.std.specs.List.Sorted.{IsStrictlyIncreasing};
-ghost use Rattle.rv_keys.specs.Keys.{has_key};
+ghost use Rattle.rv_keylist.specs.Keys.{has_key};
 ghost use Rattle.rv_keyset.specs.Sets.{AreApart};
 
 mod runs;

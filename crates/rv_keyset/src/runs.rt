@@ -1,7 +1,7 @@
 //! The lists in which the keys of a set stand.
 ghost use Rattle.std.specs.Prelude.{◌≡◌, ◌+◌, ◌<◌, ◌≤◌, ◌++◌, ◌^◌, [], true, false, length, vec_len, IsPermutation};
 ghost use Rattle.std.specs.Vec.{vec_capacity};
-ghost use Rattle.rv_keys.specs.Keys.{has_key, Once};
+ghost use Rattle.rv_keylist.specs.Keys.{has_key, Once};
 ghost use Rattle.rv_keyset.specs.Sets.{AreApart, AreFinished, AreRuns, Pours, flat};
 
 use rv_keylist::KeyList;

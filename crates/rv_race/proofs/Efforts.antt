@@ -19,7 +19,7 @@ use Rattle.rv_judge.specs.declared.judging.Verdict.TheVariants.{Continue, Abando
 use Rattle.rv_judge.specs.Counting.{reads}
 use Rattle.rv_judge.specs.Course.{next_control}
 use Rattle.rv_judge.specs.Verdicts.{Ruling}
-use Rattle.rv_keylist.specs.Keys.{may_key}
+use Rattle.rv_keylist.specs.Marks.{may_key}
 use Rattle.rv_reader.specs.declared.reader.Chunk.{Chunk}
 use Rattle.rv_reader.specs.Shown.{Shown}
 use Rattle.rv_jscan.specs.declared.jscan.Given.{Given}

@@ -4,8 +4,8 @@ use Rattle.std.proofs.lemmas.List.Sorted.{list_any-IsPermutation}
 use Rattle.std.proofs.Math.Bool.{or-false}
 use Rattle.rv_value.specs.declared.record.IndexEntry.{IndexEntry}
 use Rattle.rv_value.proofs.Tests.{some_at}
-use Rattle.rv_keys.specs.Keys.{has_key}
-use Rattle.rv_keylist.specs.Keys.{may_key}
+use Rattle.rv_keylist.specs.Keys.{has_key}
+use Rattle.rv_keylist.specs.Marks.{may_key}
 use Rattle.rv_keylist.proofs.Bits.{may_key-never_denies}
 use Rattle.rv_keylist.proofs.Narrow.{it_stays}
 use Rattle.rv_restrict.specs.Parts.{Parted}

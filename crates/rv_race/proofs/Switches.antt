@@ -1,7 +1,7 @@
 -- A change of the scans under way, of the list or of the control leaves the fit and the rest.
 use Rattle.std.proofs.Common.{◌≡◌, ℕ, ◌⊎◌, List, Bool, true, false, refl, ap, sym, ◌∙◌, subst, Option, Some, None, is_some, IsSome, IfSome, inl, inr}
 use Rattle.rv_value.proofs.Tests.{no_way}
-use Rattle.rv_keys.specs.Keys.{has_key}
+use Rattle.rv_keylist.specs.Keys.{has_key}
 use Rattle.rv_judge.specs.declared.events.Control.{Control}
 use Rattle.rv_judge.specs.declared.events.Control.TheVariants.{Building, ForegroundAlone, BackgroundAlone, FinalList, FinalTable, Done}
 use Rattle.rv_judge.specs.declared.events.Happening.{Happening}

@@ -190,7 +190,6 @@ once_swap [] a b ys o = (second (nat_eq b a) (has_index a ys) (has_index b ys) (
   where
     second : (c d e f : Bool) → f ≡ c → (c || d) ≡ false → e ≡ false → (f || e) ≡ false
     second c d e f s h i = grind arith
-
 once_swap (x ∷ xs) a b ys o = (index_append x xs (b ∷ a ∷ ys) ∙ same (has_index x xs) (nat_eq a x) (nat_eq b x) (has_index x ys) ∙ sym (index_append x xs (a ∷ b ∷ ys)) ∙ o.0, once_swap xs a b ys o.1)
   where
     same : (p q r s : Bool) → (p || (r || (q || s))) ≡ (p || (q || (r || s)))

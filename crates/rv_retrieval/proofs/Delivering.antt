@@ -5,8 +5,8 @@ use Rattle.std.proofs.lemmas.Bool.{and_right, not-true}
 use Rattle.rv_value.specs.declared.record.Record.{Record}
 use Rattle.rv_rows.specs.Rows.{Ascend}
 use Rattle.rv_restrict.specs.declared.atom.Atom.{Atom}
-use Rattle.rv_keys.specs.Keys.{has_key}
-use Rattle.rv_delivered.specs.Rows.{AddsRow}
+use Rattle.rv_keylist.specs.Keys.{has_key}
+use Rattle.rv_keylist.specs.Rows.{AddsRow}
 use Rattle.rv_judge.specs.declared.events.Trace.{Trace}
 use Rattle.rv_judge.specs.declared.events.Strategy.{Strategy}
 use Rattle.rv_judge.specs.declared.events.Strategy.TheVariants.{Table, BackgroundOnly, FastFirst, Sorted, IndexOnly, Union}

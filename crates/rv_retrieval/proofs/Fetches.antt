@@ -4,7 +4,7 @@ use Rattle.std.specs.Prelude.{if◌then◌else◌}
 use Rattle.std.proofs.lemmas.List.Elements.{filter_agree}
 use Rattle.rv_value.specs.declared.record.IndexEntry.{IndexEntry}
 use Rattle.rv_judge.specs.declared.counting.Counts.{Counts}
-use Rattle.rv_keylist.specs.Keys.{may_key}
+use Rattle.rv_keylist.specs.Marks.{may_key}
 use Rattle.rv_keylist.specs.Listed.{Listed}
 use Rattle.rv_reader.specs.Shown.{Shown}
 use Rattle.rv_scan.specs.declared.skip.Scanned.{Scanned}

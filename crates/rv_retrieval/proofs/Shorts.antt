@@ -20,8 +20,8 @@ use Rattle.rv_judge.specs.declared.events.Control.{Control}
 use Rattle.rv_judge.specs.declared.events.Control.TheVariants.{Building, ForegroundAlone, BackgroundAlone, FinalList, FinalTable, Done}
 use Rattle.rv_judge.specs.declared.events.Happening.TheVariants.{ScanEnded}
 use Rattle.rv_judge.specs.Course.{next_control}
-use Rattle.rv_keys.specs.Keys.{has_key}
-use Rattle.rv_keylist.specs.Keys.{may_key}
+use Rattle.rv_keylist.specs.Keys.{has_key}
+use Rattle.rv_keylist.specs.Marks.{may_key}
 use Rattle.rv_reader.specs.Leaves.{run_after, run_from}
 use Rattle.rv_reader.specs.Shown.{Shown}
 use Rattle.rv_scan.specs.Alongs.{Along, left}

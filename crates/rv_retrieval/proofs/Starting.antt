@@ -9,8 +9,8 @@ use Rattle.std.proofs.lemmas.List.{length-map}
 use Rattle.std.proofs.lemmas.List.Sorted.{All-permutation, IsPermutation-map, length_permutation}
 use Rattle.rv_value.proofs.Tests.{no_way, number_turned, same_number}
 use Rattle.rv_value.proofs.Lists.{from_all, to_all}
-use Rattle.rv_keys.specs.Keys.{Once, has_key}
-use Rattle.rv_keys.proofs.Onces.{Once-IsPermutation, Once-cons, Once-head, Once-tail}
+use Rattle.rv_keylist.specs.Keys.{Once, has_key}
+use Rattle.rv_keylist.proofs.Onces.{Once-IsPermutation, Once-cons, Once-head, Once-tail}
 use Rattle.rv_judge.specs.declared.counting.Counts.{Counts}
 use Rattle.rv_judge.specs.declared.events.Control.{Control}
 use Rattle.rv_judge.specs.declared.events.Control.TheVariants.{Building, ForegroundAlone, BackgroundAlone, FinalTable}

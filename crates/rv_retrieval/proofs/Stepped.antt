@@ -6,7 +6,7 @@ use Rattle.rv_reader.proofs.Rows.{found_row}
 use Rattle.rv_value.specs.declared.record.IndexEntry.{IndexEntry}
 use Rattle.rv_value.specs.declared.record.Record.{Record}
 use Rattle.rv_value.specs.declared.record.RowNo.{RowNo}
-use Rattle.rv_keys.specs.Keys.{has_key}
+use Rattle.rv_keylist.specs.Keys.{has_key}
 use Rattle.rv_judge.specs.Counting.{record_read}
 use Rattle.rv_judge.specs.Course.{building, fast_first}
 use Rattle.rv_judge.specs.declared.counting.Counts.{Counts}

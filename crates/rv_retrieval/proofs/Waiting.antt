@@ -2,7 +2,7 @@
 use Rattle.std.proofs.Common.{◌≡◌, ◌≤◌, ◌∙◌, ◌⊎◌, ℕ, Bool, true, false, not, ◌&&◌, List, Result, Ok, Err, OnErr, length, filter, drop, find, inl, inr, refl, ap, sym, subst, arith, le_trans}
 use Rattle.std.specs.Prelude.{if◌then◌else◌, Option, None}
 use Rattle.rv_value.specs.declared.record.IndexEntry.{IndexEntry}
-use Rattle.rv_keys.specs.Keys.{has_key}
+use Rattle.rv_keylist.specs.Keys.{has_key}
 use Rattle.rv_judge.specs.declared.counting.Counts.{Counts}
 use Rattle.rv_judge.specs.Course.{building, fast_first}
 use Rattle.rv_judge.specs.declared.events.Control.{Control}

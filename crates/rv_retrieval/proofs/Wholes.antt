@@ -6,8 +6,8 @@ use Rattle.std.proofs.lemmas.List.Sorted.{list_any-IsPermutation}
 use Rattle.std.proofs.Math.Bool.{or-false}
 use Rattle.rv_value.proofs.Tests.{no_way}
 use Rattle.rv_value.specs.declared.record.IndexEntry.{IndexEntry}
-use Rattle.rv_keys.specs.Keys.{has_key}
-use Rattle.rv_keys.proofs.Onces.{key_append}
+use Rattle.rv_keylist.specs.Keys.{has_key}
+use Rattle.rv_keylist.proofs.Onces.{key_append}
 use Rattle.rv_restrict.specs.Parts.{Parted, passes}
 use Rattle.rv_reader.specs.Leaves.{run_after}
 use Rattle.rv_reader.specs.Shown.{Shown}

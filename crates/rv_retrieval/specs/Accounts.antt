@@ -1,7 +1,7 @@
 -- What a retrieval keeps of its own run.
 use Rattle.std.specs.Prelude.{◌≡◌, ℕ, ◌+◌, not, ◌&&◌, List, [], ◌∷◌, length, drop, find, Option, Some, None, is_some, if◌then◌else◌}
 use Rattle.rv_value.specs.declared.record.RowNo.{RowNo}
-use Rattle.rv_keys.specs.Keys.{has_key}
+use Rattle.rv_keylist.specs.Keys.{has_key}
 use Rattle.rv_judge.specs.Account.{Account, ScanAccount}
 use Rattle.rv_judge.specs.Course.{building, fast_first}
 use Rattle.rv_jscan.specs.declared.jscan.ScanPlan.{ScanPlan}

@@ -9,7 +9,7 @@ use Rattle.rv_judge.specs.declared.events.Event.TheVariants.{At, Scan, List as L
 use Rattle.rv_judge.specs.declared.events.Happening.TheVariants.{ScanEnded}
 use Rattle.rv_judge.specs.declared.events.Trace.{Trace}
 use Rattle.rv_judge.specs.Runs.{start_events}
-use Rattle.rv_keys.specs.Keys.{has_key}
+use Rattle.rv_keylist.specs.Keys.{has_key}
 use Rattle.rv_reader.specs.Shown.{Shown}
 use Rattle.rv_value.specs.declared.record.Record.{Record}
 use Rattle.rv_jscan.specs.declared.jscan.ScanPlan.{ScanPlan}

@@ -1,6 +1,6 @@
 -- What a foreground step does, by the control, the strategy and the fresh key.
 use Rattle.std.specs.Prelude.{◌≡◌, ◌⊎◌, ℕ, ◌<◌, ◌≤◌, Bool, true, false, ◌&&◌, ◌==◌, length, Option, Some, None, if◌then◌else◌}
-use Rattle.rv_delivered.specs.Rows.{AddsRow}
+use Rattle.rv_keylist.specs.Rows.{AddsRow}
 use Rattle.rv_judge.specs.Counting.{leaf_read, page_read, record_read}
 use Rattle.rv_judge.specs.declared.counting.Counts.{Counts}
 use Rattle.rv_judge.specs.declared.events.Control.{Control}

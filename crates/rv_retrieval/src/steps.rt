@@ -1,5 +1,5 @@
 ghost use Rattle.std.specs.Prelude.{◌≡◌, ◌+◌, ◌-◌, ◌^◌, ◌<◌, ◌≤◌, ◌&&◌, ◌⊎◌, true, false, length, IfOk, IfSome, OnErr, Ok};
-ghost use Rattle.rv_keys.specs.Keys.{has_key};
+ghost use Rattle.rv_keylist.specs.Keys.{has_key};
 ghost use Rattle.rv_judge.specs.Counting.{leaf_read, page_read, record_read};
 ghost use Rattle.rv_reader.specs.Shown.{Shown};
 ghost use Rattle.rv_reader.specs.Tables.{row_at};

@@ -5,9 +5,9 @@ use Rattle.std.specs.List.{list_all, slice_index_or}
 use Rattle.rv_value.specs.declared.record.Record.{Record}
 use Rattle.rv_restrict.specs.declared.atom.Atom.{Atom}
 use Rattle.rv_restrict.specs.Truth.{names_only, qualifies, row_has}
-use Rattle.rv_keys.specs.Keys.{has_key}
+use Rattle.rv_keylist.specs.Keys.{has_key}
 use Rattle.rv_keylist.specs.Listed.{Listed}
-use Rattle.rv_keylist.specs.Keys.{may_key}
+use Rattle.rv_keylist.specs.Marks.{may_key}
 use Rattle.rv_scan.specs.declared.skip.Skip.{Skip}
 use Rattle.rv_scan.specs.declared.skip.Scanned.{Scanned}
 use Rattle.rv_scan.specs.declared.skip.Scanned.TheVariants.{Found, Working, End}

@@ -2,8 +2,7 @@ ghost use Rattle.std.specs.Prelude.{◌≡◌, true};
 ghost use Rattle.rv_restrict.specs.Truth.{names_only, row_has};
 ghost use Rattle.rv_scan.specs.Due.{FindsDue, HaveColumns, IsReady, skipped, skips};
 
-use rv_delivered::Delivered;
-use rv_keylist::KeyList;
+use rv_keylist::{Delivered, KeyList};
 use rv_restrict::{Restriction, Tri};
 use rv_value::{Record, RowNo};
 

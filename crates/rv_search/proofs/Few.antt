@@ -12,7 +12,7 @@ use Rattle.rv_value.specs.declared.record.RowNo.{RowNo}
 use Rattle.rv_value.proofs.Lists.{either_few, filter_false}
 use Rattle.rv_judge.specs.declared.events.Control.{Control}
 use Rattle.rv_judge.specs.declared.events.Control.TheVariants.{Building, ForegroundAlone, BackgroundAlone, FinalList, FinalTable, Done}
-use Rattle.rv_keys.specs.Keys.{has_key}
+use Rattle.rv_keylist.specs.Keys.{has_key}
 use Rattle.rv_rows.specs.Rows.{Ascend, comes_below}
 use Rattle.rv_rows.proofs.Filters.{filter_fewer, filter_none}
 use Rattle.rv_reader.specs.Shown.{Shown}

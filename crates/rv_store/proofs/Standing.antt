@@ -21,7 +21,7 @@ use Rattle.rv_node.specs.Nodes.{Parts}
 use Rattle.rv_node.specs.Trees.{entries_all, cuts_all}
 use Rattle.rv_index.specs.Index.{Nodes, empty_tree, nodes_at, whole_at, tree_of, entries_of, IsIndexTree}
 use Rattle.rv_index.proofs.Facts.{few_cuts, index_is, short_leaves}
-use Rattle.rv_estimate.specs.Estimates.{estimate}
+use Rattle.rv_index.specs.Estimates.{estimate}
 use Rattle.rv_store.specs.declared.tables.Table.{Table}
 use Rattle.rv_store.specs.declared.indexes.Index.{Index}
 use Rattle.rv_store.specs.Tables.{no_table, table_at, rows_in, pages_in, AreOpen, AreSameBelow, CanPut}

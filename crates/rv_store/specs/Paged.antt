@@ -5,7 +5,7 @@ use Rattle.rv_reader.specs.Shown.{Shown}
 use Rattle.rv_reader.specs.Storing.{AreColumns}
 use Rattle.rv_versions.specs.Chains.{AllChainsBelow}
 use Rattle.rv_index.specs.Index.{tree_of}
-use Rattle.rv_estimate.specs.Estimates.{estimate}
+use Rattle.rv_index.specs.Estimates.{estimate}
 use Rattle.rv_store.specs.declared.tables.Table.{Table}
 use Rattle.rv_store.specs.declared.indexes.Index.{Index}
 use Rattle.rv_store.specs.Tables.{table_at, rows_in, pages_in, AreTables}

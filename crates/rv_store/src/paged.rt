@@ -11,7 +11,7 @@ use crate::indexes::{Index, new_index};
 use crate::places::Places;
 use crate::tables::Table;
 use crate::whole::{add_index, commit_changes, purge_place, purge_written};
-use rv_estimate::split;
+use rv_index::split;
 use rv_judge::{Steps, Uncounted};
 use rv_reader::{Change, Chunk, Estimate, Reader, Sizes, Store};
 use rv_records::Records;

@@ -5,8 +5,8 @@ use Rattle.std.specs.List.Sorted.{IsStrictlyIncreasing}
 use Rattle.std.proofs.lemmas.Cmp.{nat_eq_equiv}
 use Rattle.std.proofs.lemmas.Map.Made.{length-le_from_is_member}
 use Rattle.rv_value.specs.declared.record.IndexEntry.{IndexEntry}
-use Rattle.rv_keys.specs.Keys.{has_key}
-use Rattle.rv_keys.proofs.Onces.{Once-ascending}
+use Rattle.rv_keylist.specs.Keys.{has_key}
+use Rattle.rv_keylist.proofs.Onces.{Once-ascending}
 use Rattle.rv_judge.specs.declared.events.Control.{Control}
 use Rattle.rv_judge.specs.declared.events.Control.TheVariants.{FinalList, FinalTable}
 use Rattle.rv_judge.specs.declared.events.Event.TheVariants.{Scan}

@@ -1,6 +1,6 @@
 -- WHAT A CURSOR READS OVER ITS WHOLE LIFE, and how soon a FETCH ends.
 use Rattle.std.specs.Prelude.{◌≡◌, ℕ, ◌+◌, ◌≤◌, true, List, [], ◌∷◌, length, Option}
-use Rattle.rv_keys.specs.Keys.{has_key}
+use Rattle.rv_keylist.specs.Keys.{has_key}
 use Rattle.rv_judge.specs.declared.judging.Facts.{Facts}
 use Rattle.rv_judge.specs.declared.events.Control.TheVariants.{FinalList}
 use Rattle.rv_judge.specs.Verdicts.{Ruling}

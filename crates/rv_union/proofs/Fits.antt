@@ -9,12 +9,12 @@ use Rattle.std.proofs.Math.Bool.{or-false, or_assoc}
 use Rattle.std.proofs.lemmas.Bool.{or_left, or_right}
 use Rattle.rv_value.proofs.Tests.{either}
 use Rattle.rv_value.specs.declared.record.IndexEntry.{IndexEntry}
-use Rattle.rv_keys.specs.Keys.{has_key}
+use Rattle.rv_keylist.specs.Keys.{has_key}
 use Rattle.rv_restrict.specs.Parts.{Parted, passes}
 use Rattle.rv_reader.specs.Entries.{comes_before, is_in}
 use Rattle.rv_reader.specs.Leaves.{run_after, run_from}
 use Rattle.rv_reader.specs.Shown.{Shown}
-use Rattle.rv_keys.proofs.Onces.{key_append}
+use Rattle.rv_keylist.proofs.Onces.{key_append}
 use Rattle.rv_jscan.specs.declared.jscan.ScanPlan.{ScanPlan}
 use Rattle.rv_jscan.specs.Entries.{Apart, Disjoint, has_entry}
 use Rattle.rv_jscan.specs.Joint.{meets, no_plan, passing, plan_at}

@@ -4,9 +4,9 @@ use Rattle.rv_value.specs.declared.record.IndexEntry.{IndexEntry}
 use Rattle.rv_judge.specs.declared.judging.Facts.{Facts}
 use Rattle.rv_judge.specs.Counting.{one_more}
 use Rattle.rv_judge.specs.Verdicts.{Ruling}
-use Rattle.rv_keys.specs.Keys.{has_key}
+use Rattle.rv_keylist.specs.Keys.{has_key}
 use Rattle.rv_restrict.specs.Parts.{Parted}
-use Rattle.rv_keys.proofs.Onces.{key_append}
+use Rattle.rv_keylist.proofs.Onces.{key_append}
 use Rattle.rv_jscan.specs.declared.piece.PieceId.{PieceId}
 use Rattle.rv_jscan.specs.Entries.{has_entry}
 use Rattle.rv_jscan.specs.Joint.{passing}

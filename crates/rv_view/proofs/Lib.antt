@@ -6,3 +6,4 @@ pub mod Parts
 pub mod Rows
 pub mod Sights
 pub mod Written
+pub mod Staying

@@ -2,7 +2,7 @@
 use Rattle.std.proofs.Common.{◌≡◌, ℕ, ◌+◌, ◌<◌, ◌++◌, ◌∷◌, [], ◌||◌, List, nat_eq, false, refl, ◌∙◌, arith}
 use Rattle.std.proofs.lemmas.Bool.{or_from, ne_eqb}
 use Rattle.std.proofs.lemmas.List.Folds.{list_any-append}
-use Rattle.rv_keys.specs.Keys.{has_key}
+use Rattle.rv_keylist.specs.Keys.{has_key}
 
 pub record IsFrom (low : ℕ) (keys : List ℕ) : Type 0 where
   pub none_below : (row : ℕ) → row < low → has_key row keys ≡ false

@@ -1,6 +1,6 @@
 //! The set of delivered rows, full at its last place.
 use crate::told::Told;
-use rv_delivered::Delivered;
+use rv_keylist::Delivered;
 use rv_loading::Fault;
 use rv_value::RowNo;
 use std::alloc::Global;

@@ -6,9 +6,8 @@ ghost use Rattle.try_stores.specs.Scanning.{Stands};
 
 use crate::scans::look::{Given, is_whole, look};
 use crate::told::Told;
-use rv_delivered::Delivered;
 use rv_judge::Uncounted;
-use rv_keylist::KeyList;
+use rv_keylist::{Delivered, KeyList};
 use rv_loading::{Fault, Loaded, may_read};
 use rv_reader::{Reader, Store};
 use rv_scan::Skip;

@@ -2,8 +2,7 @@ ghost use Rattle.std.specs.Prelude.{◌<◌, ◌≤◌, IfOk};
 ghost use Rattle.rv_loading.specs.Laid.{IsNarrow};
 ghost use Rattle.try_stores.specs.Filled.{IsFilled};
 
-use rv_estimate::split;
-use rv_index::Tree;
+use rv_index::{Tree, split};
 use rv_reader::{Chunk, Estimate};
 use rv_value::{IndexEntry, NoMemory, Range};
 

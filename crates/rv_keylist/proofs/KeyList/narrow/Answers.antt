@@ -1,6 +1,6 @@
 use Rattle.std.proofs.Common.{List, ℕ, IfSome, subst}
 use Rattle.std.specs.Vec.{vec_capacity}
-use Rattle.rv_keylist.specs.Keys.{Marks}
+use Rattle.rv_keylist.specs.Marks.{Marks}
 use Rattle.rv_keylist.proofs.Narrow.{narrowed, narrowed_keys, still_moved}
 use Rattle.rv_keylist.proofs.KeyList.narrow.Goals as goal
 

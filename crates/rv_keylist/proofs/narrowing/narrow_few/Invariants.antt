@@ -1,5 +1,5 @@
 use Rattle.std.proofs.Common.{◌≡◌, ◌≤◌, filter, length, take}
-use Rattle.rv_keylist.specs.Keys.{may_key}
+use Rattle.rv_keylist.specs.Marks.{may_key}
 use Rattle.rv_keylist.proofs.narrowing.narrow_few.Given as goal
 
 abbrev pub invariant-loop-key : goal.invariant-loop-key

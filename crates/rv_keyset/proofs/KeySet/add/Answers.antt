@@ -1,8 +1,8 @@
 use Rattle.std.proofs.Common.{◌≡◌, ◌++◌, length, ap, subst, sym, ◌∙◌, arith, IsPermutation}
 use Rattle.std.specs.Vec.{vec_capacity}
 use Rattle.std.proofs.lemmas.List.Sorted.{IsPermutation-sym}
-use Rattle.rv_keys.specs.Keys.{has_key}
-use Rattle.rv_keys.proofs.Onces.{Once-IsPermutation}
+use Rattle.rv_keylist.specs.Keys.{has_key}
+use Rattle.rv_keylist.proofs.Onces.{Once-IsPermutation}
 use Rattle.rv_keyset.specs.Sets.{Keyed, ascending, flat}
 use Rattle.rv_keyset.proofs.Lists.{added_keys, added_once, added_runs}
 use Rattle.rv_keyset.proofs.Orders.{ascending_has, ascending_length, ascending_moves, ascending_rises}

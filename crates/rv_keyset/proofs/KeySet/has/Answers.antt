@@ -1,5 +1,5 @@
 use Rattle.std.proofs.Common.{List, ap, ◌∙◌}
-use Rattle.rv_keys.specs.Keys.{has_key}
+use Rattle.rv_keylist.specs.Keys.{has_key}
 use Rattle.rv_keylist.specs.Listed.{Listed}
 use Rattle.rv_keyset.specs.Sets.{Keyed, flat}
 use Rattle.rv_keyset.proofs.Orders.{ascending_has}

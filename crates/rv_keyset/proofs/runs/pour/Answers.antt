@@ -1,5 +1,5 @@
 use Rattle.std.proofs.Common.{◌≡◌, ℕ, ◌<◌, ◌++◌, ◌∷◌, [], List, false, ap, subst, sym, ◌∙◌, arith}
-use Rattle.rv_keys.specs.Keys.{has_key}
+use Rattle.rv_keylist.specs.Keys.{has_key}
 use Rattle.rv_keylist.specs.Listed.{Listed}
 use Rattle.rv_keyset.proofs.Lists.{next_new, next_put, ok_holds}
 use Rattle.rv_keyset.proofs.runs.pour.Goals as goal

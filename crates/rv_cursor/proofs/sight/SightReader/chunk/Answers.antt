@@ -2,7 +2,7 @@ use Rattle.std.proofs.Common.{IfOk, List, subst}
 use Rattle.std.specs.Option.{option_copied}
 use Rattle.rv_value.specs.declared.record.IndexEntry.{IndexEntry}
 use Rattle.rv_reader.specs.Leaves.{IsChunk}
-use Rattle.rv_snapshot.specs.Alone.{alone}
+use Rattle.rv_view.specs.Alone.{alone}
 use Rattle.rv_view.specs.Sights.{laid_over}
 use Rattle.rv_cursor.proofs.Seeing.{plain_cuts, plain_entries, plain_scans, plain_suits}
 use Rattle.rv_cursor.proofs.sight.SightReader.chunk.Goals as goal

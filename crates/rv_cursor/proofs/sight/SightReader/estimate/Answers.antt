@@ -1,7 +1,7 @@
 use Rattle.std.proofs.Common.{◌∙◌, List, subst}
 use Rattle.rv_value.specs.declared.record.IndexEntry.{IndexEntry}
 use Rattle.rv_reader.specs.Shown.{IsEstimate, IsIndex}
-use Rattle.rv_snapshot.specs.Alone.{alone}
+use Rattle.rv_view.specs.Alone.{alone}
 use Rattle.rv_view.specs.Sights.{laid_over}
 use Rattle.rv_cursor.proofs.Seeing.{plain_cuts, plain_entries, plain_estimate, plain_scans, plain_suits}
 use Rattle.rv_cursor.proofs.sight.SightReader.estimate.Goals as goal

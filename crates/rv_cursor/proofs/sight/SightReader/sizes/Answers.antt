@@ -1,7 +1,7 @@
 use Rattle.std.proofs.Common.{◌∙◌, List, ap, length, subst, ℕ}
 use Rattle.rv_value.specs.declared.record.Record.{Record}
 use Rattle.rv_reader.specs.Tables.{IsTable}
-use Rattle.rv_snapshot.specs.Alone.{alone}
+use Rattle.rv_view.specs.Alone.{alone}
 use Rattle.rv_view.specs.Sights.{laid_over}
 use Rattle.rv_cursor.proofs.Seeing.{plain_pages, plain_reads, plain_rows}
 use Rattle.rv_cursor.proofs.sight.SightReader.sizes.Goals as goal

@@ -3,7 +3,7 @@ use Rattle.rv_value.proofs.Lists.{on_err}
 use Rattle.rv_retrieval.proofs.Waiting.{steady_moved}
 use Rattle.rv_scan.specs.declared.skip.Scanned.TheVariants.{Working, End}
 use Rattle.rv_retrieval.proofs.Controls.{ended, ends_fits}
-use Rattle.rv_keys.specs.Keys.{has_key}
+use Rattle.rv_keylist.specs.Keys.{has_key}
 use Rattle.rv_retrieval.specs.Room.{must_remember}
 use Rattle.rv_retrieval.specs.Shape.{RetrievalFits, Shape}
 use Rattle.rv_retrieval.proofs.Delivering.{both_found_does, both_found_fits, fresh_row, front_ends, moved_does, moved_fits}

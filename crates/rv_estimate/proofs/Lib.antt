@@ -1,3 +1,0 @@
-mod Empty
-pub mod Exact
-pub mod Steps

@@ -1,6 +1,0 @@
-//! Estimates of ranges of index trees.
-#![tactic(auto)]
-
-mod descent;
-
-pub use descent::split;

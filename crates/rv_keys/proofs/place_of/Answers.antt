@@ -1,5 +1,0 @@
-use Rattle.rv_keys.proofs.Searches.{is_place}
-use Rattle.rv_keys.proofs.place_of.Goals as goal
-
-pub returns : goal.returns
-returns c = is_place _ _ c.in-Err.at _ c.requires.ascends c.binary_search.ensures.position c.in-Err.is
