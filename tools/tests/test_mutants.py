@@ -106,6 +106,11 @@ class Repository(unittest.TestCase):
             (self.low / path).write_bytes(old) if old else (self.low / path).unlink()
         self.assertEqual(self.ran("check")[0], 0)
 
+    def test_a_kit_that_tells_no_limit_does_too(self):
+        del self.rt.LIMITS
+        status, told = self.ran("low/loses_a_row")
+        self.assertEqual((status, "loses_a_row: refused, as it must be" in told), (0, True), told)
+
     def test_many_edits_are_tried_in_shares(self):
         for number in range(6):
             self.edit(f"one_more_{number}", "refuse low::f", "low::f")
