@@ -109,8 +109,8 @@ fn facts_of(question: Question) -> Facts {
 
 /// Asks a judge the questions, one after another.
 fn write_judge<J: Judge>(rt: &HostRuntime, name: &str, judge: &mut J) -> io::Result<()> {
-    'questions: for question in QUESTIONS {
-        let facts = facts_of(question);
+    'questions: for question in &QUESTIONS {
+        let facts = facts_of(*question);
         let verdict = judge.rule(&facts);
         println!(rt; "{name}, {facts:?}: {verdict:?}")?;
     }
