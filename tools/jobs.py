@@ -4,9 +4,9 @@
 usage: tools/jobs.py
 
 That is one for each processor that this process may run on (under its control group's quota too), but no more than the free
-memory (under the group's limit too) holds at 3.5 GB each and 2 GB more for the largest; and at least one. So much the checks of
-crates here were seen to take: that of try_runs with its tests 5.1 GB, that of try_stores 4.7, that of rv_core 4.1, each other one 3.6
-or less.
+memory (under the group's limit too) holds at 6.5 GB each and 1 GB more for the largest; and at least one. So much the checks of
+crates here were seen to take with the kit rattle-kit-13b: that of try_runs with its tests 7.2 GB, of skew_cli 6.5, of rv_cli 6.2, of
+own_judge 5.9, of rvdyn_c 5.6, each other one 5.4 or less. With rattle-kit-13f the first took 5.1, and programs 3.6 or less.
 """
 from __future__ import annotations
 
@@ -18,8 +18,8 @@ from pathlib import Path
 from ending import end
 
 # What one check holds of memory, in bytes, and what the largest ones hold beyond that.
-OF_ONE = 3_500_000_000
-OF_LARGEST = 2_000_000_000
+OF_ONE = 6_500_000_000
+OF_LARGEST = 1_000_000_000
 GROUP = Path("/sys/fs/cgroup")
 
 
