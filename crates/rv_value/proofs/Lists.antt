@@ -1,7 +1,7 @@
 -- What holds of each item of a list, filters and places: lemmas that the crates above share.
 use Rattle.std.proofs.Common.{◌≡◌, ℕ, ◌<◌, ◌≤◌, zero, suc, List, [], ◌∷◌, ◌++◌, Bool, true, false, cond, refl, sym, ap, ◌∙◌, arith, inl, inr, length, filter, take, drop, remove, slice_get, slice_set, Some, Result, Ok, Err, OnOk, OnErr, All, subst, ◌||◌, ◌+◌}
 use Rattle.std.proofs.lemmas.Bool.{and_parts, cases_Bool}
-use Rattle.std.proofs.lemmas.List.{take_at}
+use Rattle.std.proofs.lemmas.List.{append_assoc, take_at}
 use Rattle.std.proofs.lemmas.Option.{same_Some}
 use Rattle.std.specs.List.{AllByRecursion, list_all, slice_index_or}
 
@@ -147,3 +147,7 @@ on_err (Err e) P h = h
 pub on_ok : {A E : Type 0} (r : Result A E) (P : Type 0) → P → OnOk r P
 on_ok (Ok a) P h = h
 on_ok (Err e) P h = tt
+
+-- A list whose places are written one after another: one more, and then the rest.
+pub written_more : {X : Type 0} (before : List X) (x : X) (rest through all : List X) → all ≡ through ++ rest → through ≡ before ++ x ∷ [] → all ≡ before ++ x ∷ rest
+written_more {X} before x rest through all e f = e ∙ ap (λ (xs : List X). xs ++ rest) f ∙ append_assoc before (x ∷ []) rest
