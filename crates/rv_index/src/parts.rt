@@ -8,7 +8,7 @@ ghost use Rattle.rv_node.specs.Trees.{differs, placed, up_to};
 ghost use Rattle.rv_index.specs.Steps.{behind_child, is_ahead, passed_first};
 
 use rv_node::Node;
-use rv_reader::{count_front, count_passed, is_before};
+use rv_reader::{count_before, count_front, count_passed, is_before};
 use rv_value::{IndexEntry, NoMemory, Range, cmp_entry, copy_slice};
 use std::alloc::Global;
 use std::cmp::Ordering;
@@ -37,7 +37,10 @@ fn count_ahead(leaf: &[IndexEntry], from: Option<&IndexEntry>, range: &Range) ->
     ensures bound { result ≤ length leaf.now }
     ensures passes { PassesTo (is_ahead range.now (option_copied from.entry)) result leaf.now }
 {
-    leaf.partition_point(|entry| ahead(from, range, entry))
+    match from {
+        Some(_) => leaf.partition_point(|entry| ahead(from, range, entry)),
+        None => count_before(leaf, range),
+    }
 }
 
 /// The entries of a leaf that are in the range and from the start on: they stand together, and are found by halves.

@@ -1,5 +1,5 @@
 -- Searches by halves among entries that ascend: what they find, and how many entries are in a range.
-use Rattle.std.proofs.Common.{◌≡◌, ℕ, zero, suc, ◌+◌, ◌-◌, ◌<◌, ◌≤◌, List, [], ◌∷◌, Bool, true, false, not, ◌&&◌, ap, refl, subst, sym, ◌∙◌, inl, inr, arith, drop, length, Option, Some, None}
+use Rattle.std.proofs.Common.{◌≡◌, ℕ, ℤ, zero, suc, ◌+◌, ◌-◌, ◌<◌, ◌≤◌, List, [], ◌∷◌, Bool, true, false, not, ◌&&◌, ap, refl, subst, sym, ◌∙◌, inl, inr, arith, drop, length, Option, Some, None}
 use Rattle.std.proofs.lemmas.Bool.{and_parts, cases_Bool, not-true}
 use Rattle.std.proofs.lemmas.List.{get_or_read}
 use Rattle.std.specs.List.{AllWithin, list_all, slice_index_or}
@@ -8,14 +8,15 @@ use Rattle.rv_value.specs.declared.record.IndexEntry.{IndexEntry}
 use Rattle.rv_value.specs.declared.range.Range.{Range}
 use Rattle.rv_value.specs.declared.range.Side.{Side}
 use Rattle.rv_value.specs.declared.range.Side.TheVariants.{Before, In, After}
-use Rattle.rv_value.specs.Ranges.{in_side, place}
+use Rattle.rv_value.specs.Numbers.{closed_at}
+use Rattle.rv_value.specs.Ranges.{in_side, is_under, place}
 use Rattle.rv_rows.proofs.Cuts.{partitioned, rising_drop}
 use Rattle.rv_reader.specs.Entries.{AreLong, Ascend, comes_before, run}
 use Rattle.rv_reader.specs.Halves.{PassesTo, is_before, is_not_after}
 use Rattle.rv_reader.specs.Leaves.{after_side, before_side, is_passed}
 use Rattle.rv_reader.proofs.Chunks.{is_long}
 use Rattle.rv_reader.proofs.Orders.{key_not, one_way, order}
-use Rattle.rv_reader.proofs.Sides.{after_along, before_along}
+use Rattle.rv_reader.proofs.Sides.{after_along, before_along, under_before}
 
 -- a place up to which a test holds and from which it fails
 pub passes_to : {X : Type 0} (p : X → Bool) (xs : List X) (i : ℕ) → i ≤ length xs → AllWithin (λ y. p y ≡ true) xs 0 i → AllWithin (λ y. p y ≡ false) xs i (length xs) → PassesTo p i xs
@@ -45,6 +46,14 @@ before_goes range x y h lx ly p = before_along range x.key y.key (key_not x y (o
 
 pub before_parted : (range : Range) (es : List IndexEntry) → Ascend es → AreLong range es → IsPartitionedBy (is_before range) es
 before_parted range es ascend long = partitioned comes_before (is_long range) (is_before range) (before_goes range) es ascend long
+
+-- an entry that is less than a number
+abbrev pub is_lower : ℤ → IndexEntry → Bool
+is_lower low e = is_under e.key (Some (closed_at low))
+
+-- where the low bound is that number, it is one before the range
+pub from_number : (range : Range) (low : ℤ) → range.low ≡ Some (closed_at low) → is_lower low ≡ is_before range
+from_number range low is = λ i e. (ap (is_under e.key) (sym is) ∙ under_before range e.key) i
 
 not_after_goes : (range : Range) (x y : IndexEntry) → comes_before x y ≡ true → is_long range x ≡ true → is_long range y ≡ true → is_not_after range y ≡ true → is_not_after range x ≡ true
 not_after_goes range x y h lx ly p = elim (cases_Bool (after_side (place range x.key))) [

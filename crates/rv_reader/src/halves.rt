@@ -1,21 +1,37 @@
 //! Searches by halves among entries that ascend.
-ghost use Rattle.std.specs.Prelude.{◌≡◌, ◌≤◌, length, not};
+ghost use Rattle.std.specs.Prelude.{◌≡◌, ◌≤◌, length, not, IfSome};
+ghost use Rattle.rv_value.specs.Numbers.{between};
 ghost use Rattle.std.specs.Option.{option_copied};
 ghost use Rattle.rv_reader.specs.Entries.{AreLong, Ascend, run};
 ghost use Rattle.rv_reader.specs.Halves.{PassesTo, is_before, is_not_after};
 ghost use Rattle.rv_reader.specs.Leaves.{is_passed};
 
 use crate::entries::{is_before, is_passed};
-use rv_value::{IndexEntry, Range, Side};
+use rv_value::{IndexEntry, Range, Side, is_under, place_between};
 
-/// How many of ascending entries are before a range.
-pub fn count_before(entries: &[IndexEntry], range: &Range) -> usize
+/// How many of ascending entries are before a range of any bounds.
+#[inline(never)]
+fn count_before_any(entries: &[IndexEntry], range: &Range) -> usize
     requires ascend { Ascend entries.now }
     requires long { AreLong range.now entries.now }
     ensures bound { result ≤ length entries.now }
     ensures passes { PassesTo (is_before range.now) result entries.now }
 {
     entries.partition_point(|entry| is_before(entry, range))
+}
+
+/// How many of ascending entries are before a range.
+#[inline(always)]
+pub fn count_before(entries: &[IndexEntry], range: &Range) -> usize
+    requires ascend { Ascend entries.now }
+    requires long { AreLong range.now entries.now }
+    ensures bound { result ≤ length entries.now }
+    ensures passes { PassesTo (is_before range.now) result entries.now }
+{
+    match range.low_number() {
+        Some(low) => entries.partition_point(|entry| is_under(&entry.key, low)),
+        None => count_before_any(entries, range),
+    }
 }
 
 /// How many of ascending entries are not after a range.
@@ -28,14 +44,21 @@ pub fn count_not_after(entries: &[IndexEntry], range: &Range) -> usize
     entries.partition_point(|entry| range.place(&entry.key) != Side::After)
 }
 
-fn is_after(entry: &IndexEntry, range: &Range) -> bool
+/// Whether an entry is after a range, which may lie between two numbers.
+#[inline(always)]
+fn is_after(entry: &IndexEntry, numbers: Option<(i64, i64)>, range: &Range) -> bool
+    requires { IfSome numbers (λ ends. range.now ≡ between ends.0 ends.1) }
     ensures { is_not_after range.now entry.now ≡ not result }
 {
-    range.place(&entry.key) == Side::After
+    match numbers {
+        Some((low, high)) => place_between(&entry.key, low, high) == Side::After,
+        None => range.place(&entry.key) == Side::After,
+    }
 }
 
 /// How many of ascending entries are not after a range, where few or all are expected to be: the first two and the last one
 /// are looked at before the others.
+#[inline(always)]
 pub fn count_front(entries: &[IndexEntry], range: &Range) -> usize
     requires ascend { Ascend entries.now }
     requires long { AreLong range.now entries.now }
@@ -46,16 +69,17 @@ pub fn count_front(entries: &[IndexEntry], range: &Range) -> usize
     if count == 0 {
         return 0;
     }
-    if is_after(&entries[0], range) {
+    let numbers = range.numbers();
+    if is_after(&entries[0], numbers, range) {
         return 0;
     }
     if count == 1 {
         return 1;
     }
-    if is_after(&entries[1], range) {
+    if is_after(&entries[1], numbers, range) {
         return 1;
     }
-    if is_after(&entries[count - 1], range) {
+    if is_after(&entries[count - 1], numbers, range) {
         return count_not_after(entries, range);
     }
     count
@@ -79,5 +103,8 @@ pub fn count_passed(cuts: &[IndexEntry], from: Option<&IndexEntry>, range: &Rang
     ensures bound { result ≤ length cuts.now }
     ensures passes { PassesTo (is_passed (option_copied from.entry) range.now) result cuts.now }
 {
-    cuts.partition_point(|cut| is_passed(from, range, cut))
+    match from {
+        Some(_) => cuts.partition_point(|cut| is_passed(from, range, cut)),
+        None => count_before(cuts, range),
+    }
 }
