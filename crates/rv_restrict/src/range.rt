@@ -8,7 +8,7 @@ ghost use Rattle.rv_value.specs.Ranges.{place};
 ghost use Rattle.rv_restrict.specs.declared.atom.Tri.{Tri};
 ghost use Rattle.rv_restrict.specs.Groups.{groups_of};
 ghost use Rattle.rv_restrict.specs.Truth.{truth};
-ghost use Rattle.rv_restrict.specs.Ranges.{AreShort, between_limit, closed_bound, compare_limit, equal_range, first_equal, first_start, greater_end, greatest_low, group_limit, high_bound, if_some, key_of, least_high, lesser_end, limit, limits_on, null_limit, operand_limit, range_for};
+ghost use Rattle.rv_restrict.specs.Ranges.{AreShort, between_limit, closed_bound, compare_limit, equal_range, first_equal, first_start, greater_end, greatest_low, group_limit, high_bound, key_of, least_high, lesser_end, limit, limits_on, null_limit, operand_limit, range_for};
 ghost use Rattle.rv_restrict.specs.Limits.{end_of, end_option, given_option, limit_of};
 
 use crate::atom::{Atom, Op, Operand};
@@ -45,11 +45,9 @@ enum Said<'a> {
     },
 }
 
-/// What all groups together say of a column.
+/// What all groups together say of a column beside the value that it must have.
 #[derive(Clone, Copy)]
 struct Limits<'a> {
-    /// The first value that it must have.
-    equal: Option<Given<'a>>,
     /// The first text with which it must begin.
     front: Option<&'a Text>,
     /// The ends between which it must lie.
@@ -77,18 +75,11 @@ fn range_on(alloc: Global, groups: &[Vec<Atom>], columns: &[u32]) -> Result<Rang
     ensures { IfOk result (λ r. r ≡ Rattle.rv_restrict.specs.Ranges.range_from (groups_of groups.now) [] columns.now) }
 {
     match columns {
-        [column] => range_of_one(alloc, &limits_on(groups, *column)),
+        [column] => match equal_on(groups, *column) {
+            Some(value) => range_at(alloc, value),
+            None => last_range(alloc, Vec::new(alloc), &limits_on(groups, *column)),
+        },
         _ => range_from(alloc, groups, columns, Vec::new(alloc)),
-    }
-}
-
-/// The range of an index of one column, for what is said of the column.
-fn range_of_one(alloc: Global, limits: &Limits) -> Result<Range, NoMemory>
-    ensures { IfOk result (λ r. r ≡ if_some (given_option limits.now.equal) (λ v. equal_range (v ∷ [])) (Rattle.rv_restrict.specs.Limits.range_of [] limits.now)) }
-{
-    match limits.equal {
-        Some(value) => range_at(alloc, value),
-        None => last_range(alloc, Vec::new(alloc), limits),
     }
 }
 
@@ -131,29 +122,39 @@ fn range_from(
 {
     match columns {
         [] => equal_range(alloc, prefix),
-        [column, more @ ..] => {
-            let limits = limits_on(groups, *column);
-            match limits.equal {
-                Some(value) => {
-                    let mut prefix = prefix;
-                    prefix.push(value.copy(alloc)?)?;
-                    range_from(alloc, groups, more, prefix)
-                }
-                None => last_range(alloc, prefix, &limits),
+        [column, more @ ..] => match equal_on(groups, *column) {
+            Some(value) => {
+                let mut prefix = prefix;
+                prefix.push(value.copy(alloc)?)?;
+                range_from(alloc, groups, more, prefix)
             }
-        }
+            None => last_range(alloc, prefix, &limits_on(groups, *column)),
+        },
+    }
+}
+
+/// The first value that the column must have.
+fn equal_on<'a>(groups: &'a [Vec<Atom>], column: u32) -> Option<Given<'a>>
+    ensures { given_option result ≡ first_equal (limits_on column (groups_of groups.now)) }
+{
+    match groups {
+        [] => None,
+        [group, more @ ..] => match said_by(group.as_slice(), column) {
+            Said::Free => equal_on(more, column),
+            Said::Equal(value) => Some(value),
+            Said::Front(_text) => equal_on(more, column),
+            Said::Span { .. } => equal_on(more, column),
+        },
     }
 }
 
 fn limits_on<'a>(groups: &'a [Vec<Atom>], column: u32) -> Limits<'a>
-    ensures equal { given_option result.equal ≡ first_equal (limits_on column (groups_of groups.now)) }
     ensures front { option_copied result.front ≡ first_start (limits_on column (groups_of groups.now)) }
     ensures low { end_option result.low ≡ greatest_low (limits_on column (groups_of groups.now)) }
     ensures high { end_option result.high ≡ least_high (limits_on column (groups_of groups.now)) }
 {
     match groups {
         [] => Limits {
-            equal: None,
             front: None,
             low: None,
             high: None,
@@ -163,10 +164,7 @@ fn limits_on<'a>(groups: &'a [Vec<Atom>], column: u32) -> Limits<'a>
             let limits = limits_on(more, column);
             match said {
                 Said::Free => limits,
-                Said::Equal(value) => Limits {
-                    equal: Some(value),
-                    ..limits
-                },
+                Said::Equal(_value) => limits,
                 Said::Front(text) => Limits {
                     front: Some(text),
                     ..limits
