@@ -1,5 +1,5 @@
 //! The part of a restriction that an index can test by itself.
-ghost use Rattle.std.specs.Prelude.{◌≡◌, ◌↔◌, ◌++◌, true, IfOk, IsTrue, List, OnOk, length};
+ghost use Rattle.std.specs.Prelude.{◌≡◌, ◌↔◌, ◌++◌, ◌∷◌, [], ◌+◌, ◌<◌, ◌≤◌, true, IfOk, IsTrue, List, OnOk, length, take};
 ghost use Rattle.rv_value.specs.declared.value.Value.{Value as OneValue};
 ghost use Rattle.rv_restrict.specs.declared.atom.Tri.{Tri as Truth};
 ghost use Rattle.rv_restrict.specs.Groups.{groups_of};
@@ -9,9 +9,10 @@ ghost use Rattle.rv_restrict.specs.Parts.{has_value, inside, key_has, key_reads,
 
 use crate::atom::{Atom, ColRef, Operand, Tri};
 use crate::truth::{Reads, Restriction, all_groups, copy_groups};
-use rv_value::{Duplicate, Key, NoMemory, Value, copy_slice};
+use rv_value::{Duplicate, Key, NoMemory, Value, copy_slice, copy_slice_in};
 use std::alloc::Global;
 use std::marker::Model;
+use std::mem;
 
 /// The groups of a restriction whose columns all lie in an index, with the index's columns.
 #[derive(Drop)]
@@ -116,39 +117,100 @@ impl Restriction {
         // It passes the key of each row for which the restriction is True.
         ensures covers { (row : List OneValue) → truth self.now row ≡ Truth.True → IfOk result (λ p. passes p (key_of row columns.now) ≡ true) }
     {
-        make_part(alloc, self.groups(), columns)
+        make_part(alloc, self.groups(), columns, Part::none(alloc))
+    }
+
+    /// Makes a part the one of the groups whose columns all lie in the index over `columns`, in its memory.
+    pub fn renew_part(
+        &self,
+        alloc: Global,
+        columns: &[u32],
+        part: &mut Part,
+    ) -> Result<(), NoMemory>
+        ensures { OnOk result (part.new ≡ part_of self.now columns.now) }
+    {
+        let over = mem::replace(part, Part::none(alloc));
+        let made = make_part(alloc, self.groups(), columns, over)?;
+        drop(mem::replace(part, made));
+        Ok(())
     }
 }
 
-fn make_part(alloc: Global, groups: &[Vec<Atom>], columns: &[u32]) -> Result<Part, NoMemory>
+impl Part {
+    /// The part of no group for an index of no column.
+    fn none(alloc: Global) -> Part {
+        Part {
+            columns: Vec::new(alloc),
+            groups: Vec::new(alloc),
+        }
+    }
+}
+
+/// The part of the groups whose columns all lie in an index, in the memory of a part that is over.
+fn make_part(
+    alloc: Global,
+    groups: &[Vec<Atom>],
+    columns: &[u32],
+    over: Part,
+) -> Result<Part, NoMemory>
     ensures { IfOk result (λ p. p ≡ part_of (groups_of groups.now) columns.now) }
 {
-    let mut found = Vec::new(alloc);
-    add_inside(alloc, groups, columns, &mut found)?;
-    let columns = copy_slice(alloc, columns)?;
+    let Part {
+        columns: before,
+        groups: mut found,
+    } = over;
+    let count = copy_inside(alloc, groups, columns, 0, &mut found)?;
+    found.truncate(count);
+    let columns = copy_slice_in(alloc, columns, before)?;
     Ok(Part {
         columns,
         groups: found,
     })
 }
 
-fn add_inside(
+/// Copies the groups whose columns all lie in an index into the places from one on. How many places are written then.
+fn copy_inside(
     alloc: Global,
     groups: &[Vec<Atom>],
     columns: &[u32],
+    at: usize,
     found: &mut Vec<Vec<Atom>>,
-) -> Result<(), NoMemory>
-    ensures { OnOk result (groups_of found.new.items ≡ groups_of found.old.items ++ inside columns.now (groups_of groups.now)) }
+) -> Result<usize, NoMemory>
+    requires { at ≤ length found.old.items }
+    ensures within { IfOk result (λ n. n ≤ length found.new.items) }
+    ensures inside { IfOk result (λ n. groups_of (take n found.new.items) ≡ groups_of (take at found.old.items) ++ inside columns.now (groups_of groups.now)) }
 {
     match groups {
-        [] => Ok(()),
+        [] => Ok(at),
         [group, more @ ..] => {
-            if all_lie(group.as_slice(), columns) {
-                found.push(copy_slice(alloc, group.as_slice())?)?;
+            if !all_lie(group.as_slice(), columns) {
+                return copy_inside(alloc, more, columns, at, found);
             }
-            add_inside(alloc, more, columns, found)
+            copy_group(alloc, group.as_slice(), at, found)?;
+            copy_inside(alloc, more, columns, at + 1, found)
         }
     }
+}
+
+/// Copies a group into a place, in the memory of the one that stands there.
+fn copy_group(
+    alloc: Global,
+    atoms: &[Atom],
+    at: usize,
+    found: &mut Vec<Vec<Atom>>,
+) -> Result<(), NoMemory>
+    requires { at ≤ length found.old.items }
+    ensures within { OnOk result (at < length found.new.items) }
+    ensures copied { OnOk result (groups_of (take (at + 1) found.new.items) ≡ groups_of (take at found.old.items) ++ atoms.now ∷ []) }
+{
+    if at < found.len() {
+        let over = &mut found[at];
+        let room = mem::replace(over, Vec::new(alloc));
+        drop(mem::replace(over, copy_slice_in(alloc, atoms, room)?));
+    } else {
+        found.push(copy_slice(alloc, atoms)?)?;
+    }
+    Ok(())
 }
 
 fn all_lie(atoms: &[Atom], columns: &[u32]) -> bool
