@@ -1,5 +1,5 @@
 //! Restrictions over several FROM items, bound at one of them.
-ghost use Rattle.std.specs.Prelude.{◌≡◌, ◌++◌, ◌∷◌, [], true, Bool, IfOk, List, OnOk, length, map, ℕ};
+ghost use Rattle.std.specs.Prelude.{◌≡◌, ◌++◌, ◌∷◌, [], ◌+◌, ◌<◌, ◌≤◌, true, Bool, IfOk, List, OnOk, length, map, take, ℕ};
 ghost use Rattle.rv_value.specs.declared.value.Value.{Value as OneValue};
 ghost use Rattle.rv_restrict.specs.Groups.{groups_of};
 ghost use Rattle.rv_restrict.specs.Truth.{atom_names_only, group_names_only, names_only, operand_names_only, truth};
@@ -29,8 +29,15 @@ impl<'a> Reads for Rows<'a> {
 impl Restriction {
     /// The groups whose highest place is `place`, with the rows of the places below put in and `place`
     /// itself renamed 0. A comparison with an outer column on its left is turned round, so that it
-    /// can bound an index; an atom of outer columns alone becomes a constant of its group.
-    pub fn bind(&self, alloc: Global, place: u32, outer: &[Values]) -> Result<Restriction, NoMemory>
+    /// can bound an index; an atom of outer columns alone becomes a constant of its group. The memory of a restriction that
+    /// is over is used anew.
+    pub fn bind(
+        &self,
+        alloc: Global,
+        place: u32,
+        outer: &[Values],
+        over: Restriction,
+    ) -> Result<Restriction, NoMemory>
         requires rows { length outer.now ≡ place }
         requires columns { can_bind place outer.now self.now ≡ true }
         ensures bound { IfOk result (λ b. b ≡ bound place outer.now self.now) }
@@ -41,47 +48,65 @@ impl Restriction {
         // It is over place 0 alone, and names only columns that the groups taken name of the place.
         ensures names { (p : ℕ → Bool) → names_only (passes_at place p) (taken place self.now) ≡ true → IfOk result (λ b. names_only (passes_home p) b ≡ true) }
     {
-        let mut found = Vec::new(alloc);
-        bind_groups(alloc, self.groups(), place, outer, &mut found)?;
+        let mut found = over.into_groups();
+        let count = bind_groups(alloc, self.groups(), place, outer, 0, &mut found)?;
+        found.truncate(count);
         Ok(Restriction::from_groups(found))
     }
 }
 
+/// Binds groups into the places from one on. How many places are written then.
 fn bind_groups(
     alloc: Global,
     groups: &[Vec<Atom>],
     place: u32,
     outer: &[Values],
+    at: usize,
     found: &mut Vec<Vec<Atom>>,
-) -> Result<(), NoMemory>
+) -> Result<usize, NoMemory>
     requires rows { length outer.now ≡ place }
     requires columns { can_bind place outer.now (groups_of groups.now) ≡ true }
-    ensures { OnOk result (groups_of found.new.items ≡ groups_of found.old.items ++ bound place outer.now (groups_of groups.now)) }
+    requires at { at ≤ length found.old.items }
+    ensures within { IfOk result (λ n. n ≤ length found.new.items) }
+    ensures bound { IfOk result (λ n. groups_of (take n found.new.items) ≡ groups_of (take at found.old.items) ++ bound place outer.now (groups_of groups.now)) }
 {
     match groups {
-        [] => Ok(()),
+        [] => Ok(at),
         [group, more @ ..] => {
-            if highest_place(group.as_slice()) == place {
-                found.push(bind_group(alloc, group.as_slice(), place, outer)?)?;
+            if highest_place(group.as_slice()) != place {
+                return bind_groups(alloc, more, place, outer, at, found);
             }
-            bind_groups(alloc, more, place, outer, found)
+            bind_group(alloc, group.as_slice(), place, outer, at, found)?;
+            bind_groups(alloc, more, place, outer, at + 1, found)
         }
     }
 }
 
+/// Binds a group into a place, in the memory of the one that stands there.
 fn bind_group(
     alloc: Global,
     atoms: &[Atom],
     place: u32,
     outer: &[Values],
-) -> Result<Vec<Atom>, NoMemory>
+    at: usize,
+    found: &mut Vec<Vec<Atom>>,
+) -> Result<(), NoMemory>
     requires rows { length outer.now ≡ place }
     requires columns { group_names_only (outer_fits place outer.now) atoms.now ≡ true }
-    ensures { IfOk result (λ b. b.items ≡ map (bound_atom place outer.now) atoms.now) }
+    requires at { at ≤ length found.old.items }
+    ensures within { OnOk result (at < length found.new.items) }
+    ensures bound { OnOk result (groups_of (take (at + 1) found.new.items) ≡ groups_of (take at found.old.items) ++ map (bound_atom place outer.now) atoms.now ∷ []) }
 {
-    let mut found = Vec::with_capacity(alloc, atoms.len())?;
-    bind_atoms(alloc, atoms, place, outer, &mut found)?;
-    Ok(found)
+    if at < found.len() {
+        let over = &mut found[at];
+        over.clear();
+        bind_atoms(alloc, atoms, place, outer, over)
+    } else {
+        let mut group = Vec::with_capacity(alloc, atoms.len())?;
+        bind_atoms(alloc, atoms, place, outer, &mut group)?;
+        found.push(group)?;
+        Ok(())
+    }
 }
 
 fn bind_atoms(

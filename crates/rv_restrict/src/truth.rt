@@ -59,6 +59,14 @@ impl Restriction {
         Restriction { groups }
     }
 
+    /// The groups in order, for what is made in their memory.
+    pub(crate) fn into_groups(self) -> Vec<Vec<Atom>>
+        ensures { groups_of result.items ≡ self }
+    {
+        let Restriction { groups } = self;
+        groups
+    }
+
     /// The groups in order.
     pub fn groups(&self) -> &[Vec<Atom>]
         ensures { groups_of result.now ≡ self.now }

@@ -112,7 +112,12 @@ fn bound_behind(alloc: Global, number: i64) -> Result<Restriction, NoMemory> {
     let group = vec![in alloc; less]?;
     let only = Restriction::from_groups(vec![in alloc; group]?);
     let row = Values::of(alloc, vec![in alloc; Value::Int(number)]?)?;
-    only.bind(alloc, 1, std::slice::from_ref(&row))
+    only.bind(
+        alloc,
+        1,
+        std::slice::from_ref(&row),
+        Restriction::from_groups(Vec::new(alloc)),
+    )
 }
 
 /// The range that a comparison of two places has at the second one, behind a row of a number.
