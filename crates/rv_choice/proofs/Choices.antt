@@ -1,7 +1,8 @@
 -- The choice among the indexes: the least one, what candidates are, and what the background's scans and the foreground are.
-use Rattle.std.proofs.Common.{◌≡◌, ℕ, ◌+◌, ◌<◌, ◌≤◌, ◌⊎◌, List, [], ◌∷◌, ◌++◌, cond, length, Bool, true, false, not, refl, ap, sym, ◌∙◌, arith, subst, Some, None, Option, nat_eq, nat_lt, inl, inr, map, filter, take, ◌||◌}
+use Rattle.std.proofs.Common.{◌≡◌, ℕ, ◌+◌, ◌<◌, ◌≤◌, ◌⊎◌, List, [], ◌∷◌, ◌++◌, cond, length, Bool, true, false, not, refl, ap, sym, ◌∙◌, arith, subst, Some, None, Option, nat_eq, nat_lt, inl, inr, map, filter, take, drop, get_or, ◌-◌, ◌||◌}
 use Rattle.std.proofs.lemmas.Bool.{cases_Bool, ltb-true, eqb-true}
 use Rattle.std.proofs.lemmas.Bool.Decides.{nat_tests}
+use Rattle.std.proofs.lemmas.List.{take_rest}
 use Rattle.std.specs.Cmp.Lexicographic.{pointwise}
 use Rattle.std.specs.List.{AllByRecursion, starts_with}
 use Rattle.std.specs.Cmp.{first_so, second_so}
@@ -108,6 +109,13 @@ same_numbers (x ∷ xs) (y ∷ ys) h = two x y xs ys (first_so (nat_eq x y) (poi
 pub leads_begins : (order columns : List ℕ) → leads order columns ≡ true → take (length order) columns ≡ order
 leads_begins order columns h = same_numbers order (take (length order) columns) (second_so (not (nat_eq (length order) 0)) (starts_with nat_eq columns order) h)
 
--- the scans of one more candidate
-pub plans_more : (only : List (List Atom)) (background : Background) (c : Candidate) (cs : List Candidate) → plans_of only background (c ∷ cs) ≡ plans_of only background (c ∷ []) ++ plans_of only background cs
-plans_more only background c cs = elim (is_scanned background c) as (λ b. map (plan_of only) (cond b (c ∷ filter (is_scanned background) cs) (filter (is_scanned background) cs)) ≡ map (plan_of only) (cond b (c ∷ []) []) ++ map (plan_of only) (filter (is_scanned background) cs)) [ true ↦ refl | false ↦ refl ]
+-- the scans where the first index is scanned
+pub plans_more : (only : List (List Atom)) (background : Background) (cs : List Candidate) (c : Candidate) → 1 ≤ length cs → c ≡ get_or cs 0 c → is_scanned background c ≡ true → plans_of only background cs ≡ plan_of only c ∷ plans_of only background (take (length cs - 1) (drop 1 cs))
+plans_more only background [] c some e s = absurd (omega (arith, some))
+plans_more only background (d ∷ cs) c some e s =
+    let same : c ≡ d = e in
+    let here : is_scanned background d ≡ true = subst (λ (x : Candidate). is_scanned background x ≡ true) same s in
+    let others : take (length (d ∷ cs) - 1) (drop 1 (d ∷ cs)) ≡ cs = take_rest (d ∷ cs) 1 in
+    ap (λ (b : Bool). map (plan_of only) (cond b (d ∷ filter (is_scanned background) cs) (filter (is_scanned background) cs))) here
+    ∙ ap (λ (x : Candidate). plan_of only x ∷ plans_of only background cs) (sym same)
+    ∙ ap (λ (xs : List Candidate). plan_of only c ∷ plans_of only background xs) (sym others)

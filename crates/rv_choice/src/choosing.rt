@@ -1,4 +1,4 @@
-ghost use Rattle.std.specs.Prelude.{◌≡◌, ◌+◌, ◌<◌, ◌≤◌, ◌++◌, ◌∷◌, [], length, Option, IfOk, IfSome, OnOk, true};
+ghost use Rattle.std.specs.Prelude.{◌≡◌, ◌+◌, ◌<◌, ◌≤◌, ◌++◌, ◌∷◌, [], ℕ, List, length, map, take, Option, IfOk, IfSome, OnOk, true};
 ghost use Rattle.rv_restrict.specs.Parts.{stands_among};
 ghost use Rattle.rv_reader.specs.Shown.{Shown};
 ghost use Rattle.rv_choice.specs.Asked.{CanAsk, IsIndexOf, with_only};
@@ -12,6 +12,7 @@ use rv_reader::{Estimate, Reader};
 use rv_restrict::Restriction;
 use rv_value::{Duplicate, Items, NoMemory, Range};
 use std::alloc::Global;
+use std::mem;
 
 /// An index as a query sees it.
 #[derive(Drop)]
@@ -134,35 +135,125 @@ fn view<R: Reader>(
     })
 }
 
-/// The table's indexes as the query sees them, were this its restriction.
+impl Candidate {
+    /// Makes a candidate an index as the query sees it, were this its restriction, in its memory.
+    fn renew<R: Reader>(
+        &mut self,
+        alloc: Global,
+        reader: &R,
+        query: &Query,
+        only: &Restriction,
+        index: u32,
+        columns: &Items<u32>,
+    ) -> Result<(), NoMemory>
+        requires { IsIndexOf query.now (R.shown reader.now) index columns.now }
+        ensures is { OnOk result (self.new ≡ candidate_of (with_only only.now query.now) (R.shown reader.now) (index, columns.now)) }
+        ensures right { OnOk result (IsRight (R.shown reader.now) query.now.snap self.new) }
+    {
+        keep_columns(alloc, columns, &mut self.columns)?;
+        let range = only.range_for(alloc, columns.as_slice())?;
+        self.estimate = reader.estimate(index, query.snap, &range);
+        self.restricted = !range.is_whole();
+        self.sufficient = has_all(columns.as_slice(), query.need.get().as_slice());
+        self.index = index;
+        drop(mem::replace(&mut self.range, range));
+        Ok(())
+    }
+}
+
+/// Has the columns of an index; none is copied where they stand there already.
+fn keep_columns(alloc: Global, columns: &Items<u32>, have: &mut Items<u32>) -> Result<(), NoMemory>
+    ensures { OnOk result (have.new ≡ columns.now) }
+{
+    if have.as_slice() == columns.as_slice() {
+        return Ok(());
+    }
+    drop(mem::replace(have, columns.copy(alloc)?));
+    Ok(())
+}
+
+/// Puts an index as the query sees it into a place, were this its restriction, in the memory of what stands there.
+fn put_view<R: Reader>(
+    alloc: Global,
+    reader: &R,
+    query: &Query,
+    only: &Restriction,
+    index: &(u32, Items<u32>),
+    at: usize,
+    found: &mut Vec<Candidate>,
+) -> Result<(), NoMemory>
+    requires index { IsIndexOf query.now (R.shown reader.now) index.now.0 index.now.1 }
+    requires at { at ≤ length found.old.items }
+    ensures within { OnOk result (at < length found.new.items) }
+    ensures is { OnOk result (take (at + 1) found.new.items ≡ take at found.old.items ++ candidate_of (with_only only.now query.now) (R.shown reader.now) index.now ∷ []) }
+    ensures right { OnOk result (IsRight (R.shown reader.now) query.now.snap (candidate_of (with_only only.now query.now) (R.shown reader.now) index.now)) }
+{
+    if at < found.len() {
+        found[at].renew(alloc, reader, query, only, index.0, &index.1)
+    } else {
+        found.push(view(alloc, reader, query, only, index.0, &index.1)?)?;
+        Ok(())
+    }
+}
+
+/// Puts indexes as the query sees them into the places from one on, were this its restriction. How many places are written
+/// then.
+fn put_views<R: Reader>(
+    alloc: Global,
+    reader: &R,
+    query: &Query,
+    only: &Restriction,
+    indexes: &[(u32, Items<u32>)],
+    at: usize,
+    found: &mut Vec<Candidate>,
+) -> Result<usize, NoMemory>
+    requires indexes { AllByRecursion (λ (i : ℕ × List ℕ). IsIndexOf query.now (R.shown reader.now) i.0 i.1) indexes.now }
+    requires at { at ≤ length found.old.items }
+    ensures within { IfOk result (λ n. n ≤ length found.new.items) }
+    ensures are { IfOk result (λ n. take n found.new.items ≡ take at found.old.items ++ map (candidate_of (with_only only.now query.now) (R.shown reader.now)) indexes.now) }
+    ensures right { OnOk result (AllByRecursion (IsRight (R.shown reader.now) query.now.snap) (map (candidate_of (with_only only.now query.now) (R.shown reader.now)) indexes.now)) }
+{
+    match indexes {
+        [] => Ok(at),
+        [index, more @ ..] => {
+            put_view(alloc, reader, query, only, index, at, found)?;
+            put_views(alloc, reader, query, only, more, at + 1, found)
+        }
+    }
+}
+
+/// The table's indexes as the query sees them, were this its restriction. The memory of candidates that are over is used
+/// anew.
 pub(crate) fn candidates_for<R: Reader>(
     alloc: Global,
     reader: &R,
     query: &Query,
     only: &Restriction,
+    over: Vec<Candidate>,
 ) -> Result<Vec<Candidate>, NoMemory>
     requires { CanAsk query.now (R.shown reader.now) }
     ensures are { IfOk result (λ cs. cs.items ≡ candidates_of (with_only only.now query.now) (R.shown reader.now)) }
     ensures right { IfOk result (λ cs. AllByRecursion (IsRight (R.shown reader.now) query.now.snap) cs.items) }
 {
-    let mut found = Vec::new(alloc);
-    'indexes: for index in query.indexes.get().as_slice() {
-        found.push(view(alloc, reader, query, only, index.0, &index.1)?)?;
-    }
+    let mut found = over;
+    let indexes = query.indexes.get().as_slice();
+    let count = put_views(alloc, reader, query, only, indexes, 0, &mut found)?;
+    found.truncate(count);
     Ok(found)
 }
 
-/// The table's indexes as the query sees them.
+/// The table's indexes as the query sees them. The memory of candidates that are over is used anew.
 pub fn candidates<R: Reader>(
     alloc: Global,
     reader: &R,
     query: &Query,
+    over: Vec<Candidate>,
 ) -> Result<Vec<Candidate>, NoMemory>
     requires { CanAsk query.now (R.shown reader.now) }
     ensures are { IfOk result (λ cs. cs.items ≡ candidates_of query.now (R.shown reader.now)) }
     ensures right { IfOk result (λ cs. AllByRecursion (IsRight (R.shown reader.now) query.now.snap) cs.items) }
 {
-    candidates_for(alloc, reader, query, &query.only)
+    candidates_for(alloc, reader, query, &query.only, over)
 }
 
 /// Of the best so far and one more candidate the one that plays the part with the lesser estimate, or the first.
@@ -313,20 +404,65 @@ pub(crate) fn plan(
     })
 }
 
-/// Adds the scan of an index that the background scans.
-fn add_plan(
+/// Makes a planned scan the one of an index, in its memory.
+fn renew_plan(
     alloc: Global,
     only: &Restriction,
     candidate: &Candidate,
-    background: Background,
+    plan: &mut ScanPlan,
+) -> Result<(), NoMemory>
+    ensures { OnOk result (plan.new ≡ plan_of only.now candidate.now) }
+{
+    let range = candidate.range.copy(alloc)?;
+    drop(mem::replace(&mut plan.range, range));
+    plan.index = candidate.index;
+    plan.estimate = candidate.estimate.value;
+    only.renew_part(alloc, candidate.columns.as_slice(), &mut plan.part)
+}
+
+/// Puts the scan of an index into a place, in the memory of what stands there.
+fn put_plan(
+    alloc: Global,
+    only: &Restriction,
+    candidate: &Candidate,
+    at: usize,
     plans: &mut Vec<ScanPlan>,
 ) -> Result<(), NoMemory>
-    ensures { OnOk result (plans.new.items ≡ plans.old.items ++ plans_of only.now background (candidate.now ∷ [])) }
+    requires { at ≤ length plans.old.items }
+    ensures within { OnOk result (at < length plans.new.items) }
+    ensures is { OnOk result (take (at + 1) plans.new.items ≡ take at plans.old.items ++ plan_of only.now candidate.now ∷ []) }
 {
-    if background.scans(candidate) {
+    if at < plans.len() {
+        renew_plan(alloc, only, candidate, &mut plans[at])
+    } else {
         plans.push(plan(alloc, only, candidate)?)?;
+        Ok(())
     }
-    Ok(())
+}
+
+/// Puts the scans of indexes that the background scans into the places from one on. How many places are written then.
+fn put_plans(
+    alloc: Global,
+    only: &Restriction,
+    candidates: &[Candidate],
+    background: Background,
+    at: usize,
+    plans: &mut Vec<ScanPlan>,
+) -> Result<usize, NoMemory>
+    requires { at ≤ length plans.old.items }
+    ensures within { IfOk result (λ n. n ≤ length plans.new.items) }
+    ensures are { IfOk result (λ n. take n plans.new.items ≡ take at plans.old.items ++ plans_of only.now background candidates.now) }
+{
+    match candidates {
+        [] => Ok(at),
+        [candidate, more @ ..] => {
+            if !background.scans(candidate) {
+                return put_plans(alloc, only, more, background, at, plans);
+            }
+            put_plan(alloc, only, candidate, at, plans)?;
+            put_plans(alloc, only, more, background, at + 1, plans)
+        }
+    }
 }
 
 fn plans(
@@ -334,27 +470,28 @@ fn plans(
     only: &Restriction,
     candidates: &[Candidate],
     background: Background,
+    over: Vec<ScanPlan>,
 ) -> Result<Vec<ScanPlan>, NoMemory>
     ensures { IfOk result (λ plans. plans.items ≡ plans_of only.now background candidates.now) }
 {
-    let mut plans = Vec::new(alloc);
-    'candidates: for candidate in candidates {
-        add_plan(alloc, only, candidate, background, &mut plans)?;
-    }
+    let mut plans = over;
+    let count = put_plans(alloc, only, candidates, background, 0, &mut plans)?;
+    plans.truncate(count);
     Ok(plans)
 }
 
 /// The scans of the background in ascending order of estimates; of equal ones that of the index created first comes
-/// first.
+/// first. The memory of scans that are over is used anew.
 pub fn scans(
     alloc: Global,
     only: &Restriction,
     candidates: &[Candidate],
     background: Background,
+    over: Vec<ScanPlan>,
 ) -> Result<Vec<ScanPlan>, NoMemory>
     ensures { IfOk result (λ scans. AreScans only.now candidates.now background scans.items) }
 {
-    let mut scans = plans(alloc, only, candidates, background)?;
+    let mut scans = plans(alloc, only, candidates, background, over)?;
     scans.sort_by_key(|scan| scan.estimate)?;
     Ok(scans)
 }

@@ -24,7 +24,7 @@ fn member<R: Reader>(
     ensures none { IfOk result (λ m. m ≡ None → is_bounded query.now (R.shown reader.now) branch.now ≡ false) }
     ensures some { IfOk result (λ m. IfSome m (IsMember query.now (R.shown reader.now) branch.now)) }
 {
-    let candidates = candidates_for(alloc, reader, query, branch)?;
+    let candidates = candidates_for(alloc, reader, query, branch, Vec::new(alloc))?;
     match least(candidates.as_slice(), Role::Restricted) {
         None => Ok(None),
         Some(at) => Ok(Some(plan(alloc, branch, &candidates[at])?)),
