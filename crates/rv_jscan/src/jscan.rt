@@ -137,6 +137,15 @@ impl Jscan {
         }
     }
 
+    /// Takes the planned scans out, for their memory: it has none then, as one of no scans.
+    pub fn take_plans(&mut self) -> Vec<ScanPlan>
+        ensures plans { result.items ≡ self.old.plans }
+        ensures over { self.new ≡ record self.old { ended = 0; plans = [] } }
+    {
+        self.ended = 0;
+        mem::replace(&mut self.plans, Vec::new(self.alloc))
+    }
+
     /// Begins anew with other scans, as one that `new` makes. It takes no memory.
     pub fn renew(&mut self, table: u32, snap: u64, scans: Vec<ScanPlan>, cursor: u64, opening: u64)
         requires { length scans.items ≤ 8 }
