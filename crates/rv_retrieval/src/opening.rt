@@ -28,6 +28,14 @@ use rv_scan::Front;
 use rv_value::NoMemory;
 use std::alloc::Global;
 
+/// The planned scans of a retrieval that is over, for their memory.
+fn plans_of(alloc: Global, over: &mut Option<Box<Retrieval>>) -> Vec<ScanPlan> {
+    match over {
+        Some(over) => over.take_plans(),
+        None => Vec::new(alloc),
+    }
+}
+
 impl Retrieval {
     /// Writes the first control into the trace, and the scan with which a background begins.
     fn tell_start(&mut self)
@@ -40,8 +48,7 @@ impl Retrieval {
     }
 
     /// A retrieval under a strategy, with these background scans and this scan of an index as the foreground, which is
-    /// used where the strategy is sorted or index-only. It has read nothing. It takes the place of one that is over, where one is
-    /// given.
+    /// used where the strategy is sorted or index-only. It has read nothing. It takes the place of one that is over.
     fn begin(
         alloc: Global,
         over: Option<Box<Retrieval>>,
@@ -207,7 +214,9 @@ impl Retrieval {
         ensures unlisted { IfOk result (λ r. r.value.joint.list ≡ None) }
         ensures few { has_short query (R.shown reader.now) ≡ true → IfOk result (λ r. keys_most r.value.joint (R.shown reader.now) ≤ 20) }
     {
-        let scans = match scans(alloc, &query.only, candidates, choice.background) {
+        let mut over = over;
+        let plans = plans_of(alloc, &mut over);
+        let scans = match scans(alloc, &query.only, candidates, choice.background, plans) {
             Ok(scans) => scans,
             Err(fault) => {
                 drop(over);
@@ -312,7 +321,7 @@ impl Retrieval {
         ensures only { OnlyLeaves steps.old steps.new }
         ensures unread { has_short query (R.shown reader.now) ≡ false → steps.new ≡ steps.old }
     {
-        let candidates = match candidates(alloc, reader, &query) {
+        let candidates = match candidates(alloc, reader, &query, Vec::new(alloc)) {
             Ok(candidates) => candidates,
             Err(fault) => {
                 drop(query);

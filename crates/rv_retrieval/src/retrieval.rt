@@ -38,6 +38,7 @@ use rv_jscan::{Given, Jscan, PieceId, ScanPlan, Sieved, Taken};
 use rv_judge::{Control, Counts, Event, Facts, Steps, Strategy, Trace, project};
 use rv_keylist::{Delivered, KeyList};
 use rv_reader::Reader;
+use rv_restrict::Restriction;
 use rv_scan::{Front, Scanned, Skip};
 use rv_value::{NoMemory, Record, RowNo};
 use std::alloc::Global;
@@ -536,6 +537,22 @@ impl Retrieval {
         };
         let boxed = Box::new(alloc, retrieval)?;
         Ok(boxed)
+    }
+
+    /// Takes the restriction out of a retrieval that is over, for its memory.
+    pub fn take_only(&mut self) -> Restriction
+        ensures only { result ≡ self.old.query.only }
+        ensures over { self.new ≡ record self.old { query = record self.old.query { only = [] } } }
+    {
+        mem::replace(
+            &mut self.query.only,
+            Restriction::from_groups(Vec::new(self.alloc)),
+        )
+    }
+
+    /// Takes the planned scans out of a retrieval that is over, for their memory.
+    pub(crate) fn take_plans(&mut self) -> Vec<ScanPlan> {
+        self.joint.take_plans()
     }
 
     /// Begins anew in the place of a retrieval that is over, as `make` makes it. On `NoMemory` it is of no more use.
