@@ -3,3 +3,4 @@ pub mod Given
 pub mod Stepping
 pub mod Opened
 pub mod Ahead
+pub mod Memory

@@ -280,7 +280,7 @@ impl Access {
         ensures only { OnlyLeaves steps.old steps.new }
         ensures unread { has_short query (R.shown reader.now) ≡ false → steps.new ≡ steps.old }
     {
-        let candidates = match candidates(alloc, reader, &query) {
+        let candidates = match candidates(alloc, reader, &query, over.take_candidates()) {
             Ok(candidates) => candidates,
             Err(fault) => {
                 drop(query);
@@ -290,7 +290,7 @@ impl Access {
         let choice = choose(candidates.as_slice(), query.order.as_slice(), query.goal);
         let raced = will_race(race, choice, candidates.as_slice());
         if raced {
-            Access::open_raced(
+            let opened = Access::open_raced(
                 alloc,
                 reader,
                 query,
@@ -299,19 +299,23 @@ impl Access {
                 cursor,
                 opening,
                 steps,
-            )
+            );
+            over.keep_candidates(candidates);
+            opened
         } else {
-            Access::open_chosen(
+            let opened = Access::open_chosen(
                 alloc,
                 reader,
-                over.take(),
+                over.take_retrieval(),
                 query,
                 candidates.as_slice(),
                 choice,
                 cursor,
                 opening,
                 steps,
-            )
+            );
+            over.keep_candidates(candidates);
+            opened
         }
     }
 }

@@ -67,7 +67,13 @@ impl RacedQuery {
         ensures counts { IfOk result (λ r. CountsAll r.race.trace steps.old steps.new) }
         ensures unread { steps.new ≡ steps.old }
     {
-        let scans = match scans(alloc, &query.only, candidates, choice.background) {
+        let scans = match scans(
+            alloc,
+            &query.only,
+            candidates,
+            choice.background,
+            Vec::new(alloc),
+        ) {
             Ok(scans) => scans,
             Err(fault) => {
                 drop(query);

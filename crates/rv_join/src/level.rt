@@ -21,8 +21,9 @@ use rv_model::Offer;
 use rv_reader::Reader;
 use rv_restrict::ColRef;
 use rv_retrieval::Fg;
-use rv_value::{Duplicate, Items, NoMemory, Record, Value, Values, copy_slice};
+use rv_value::{Duplicate, Items, NoMemory, Record, Value, Values, copy_slice, copy_slice_in};
 use std::alloc::Global;
+use std::mem;
 
 /// An open access over the rows chosen of the FROM items before its own, and the row that it gave last, while
 /// nothing is open over that row.
@@ -31,6 +32,34 @@ pub struct Level {
     pub outer: Items<Values>,
     pub row: Option<Values>,
     pub here: Access,
+}
+
+/// The memory of a level that is over, in which the next one is opened. What a level is does not rest on it.
+#[derive(Drop)]
+pub struct Room {
+    access: Over,
+    rows: Vec<Values>,
+}
+
+impl Room {
+    /// No memory.
+    pub fn new(alloc: Global) -> Room {
+        Room {
+            access: Over::new(alloc),
+            rows: Vec::new(alloc),
+        }
+    }
+
+    /// Keeps the memory of a level that is over.
+    pub fn keep(&mut self, level: Level) {
+        let Level {
+            outer,
+            row: _,
+            here,
+        } = level;
+        drop(mem::replace(&mut self.rows, outer.into_vec()));
+        self.access.keep(here);
+    }
 }
 
 /// What a look for a level's next row came to.
@@ -263,25 +292,26 @@ impl Level {
         &self,
         alloc: Global,
         asked: &Asked,
+        over: Vec<Values>,
         row: &Values,
     ) -> Result<Items<Values>, NoMemory>
         requires { length self.now.outer < length asked.now.items }
         ensures { IfOk result (λ rows. rows ≡ self.now.outer ++ widened (width (item_at asked.now (length self.now.outer)).need) row.now ∷ []) }
     {
         let item = asked.item(self.outer.len());
-        let mut rows = self.outer.copy(alloc)?;
+        let mut rows = copy_slice_in(alloc, self.outer.as_slice(), over)?;
         rows.push(copy_wide(alloc, row, item.need.get().as_slice())?)?;
-        Ok(rows)
+        Ok(Items::from_vec(rows))
     }
 
-    /// Opens the level of the next FROM item over a row that is held, in the memory of an access that is over.
+    /// Opens the level of the next FROM item over a row that is held. The memory of a level that is over is used anew.
     #[tactic(auto, using(crate::proofs::Binding::wide_more, crate::proofs::Opening::descends))]
     pub fn inner<R: Reader>(
         &self,
         alloc: Global,
         reader: &R,
         asked: &Asked,
-        over: &mut Over,
+        room: &mut Room,
         row: &Values,
         opening: u64,
         steps: &mut Steps<R::Ledger>,
@@ -294,8 +324,17 @@ impl Level {
         ensures opens { IfOk result (OpensInner asked.now (R.shown reader.now) opening steps.old steps.new self.now) }
         ensures only { OnlyLeaves steps.old steps.new }
     {
-        let outer = self.wide_rows(alloc, asked, row)?;
-        let here = open_item(alloc, reader, asked, over, outer.as_slice(), opening, steps)?;
+        let rows = mem::replace(&mut room.rows, Vec::new(alloc));
+        let outer = self.wide_rows(alloc, asked, rows, row)?;
+        let here = open_item(
+            alloc,
+            reader,
+            asked,
+            &mut room.access,
+            outer.as_slice(),
+            opening,
+            steps,
+        )?;
         Ok(Level {
             outer,
             row: None,

@@ -354,7 +354,12 @@ pub fn ask(
 
 /// What the retrieval of an item is asked over the rows of the items before it, whose values are put into its
 /// restriction, so that it has a range where they give one.
-fn query(alloc: Global, asked: &Asked, outer: &[Values]) -> Result<Query, NoMemory>
+fn query(
+    alloc: Global,
+    asked: &Asked,
+    over: Restriction,
+    outer: &[Values],
+) -> Result<Query, NoMemory>
     requires joined { length asked.now.items ≤ 4 }
     requires inside { length outer.now < length asked.now.items }
     requires columns { can_bind (length outer.now) outer.now asked.now.only ≡ true }
@@ -364,7 +369,7 @@ fn query(alloc: Global, asked: &Asked, outer: &[Values]) -> Result<Query, NoMemo
     Ok(Query {
         table: item.table,
         snap: asked.snap,
-        only: asked.only.bind(alloc, outer.len() as u32, outer)?,
+        only: asked.only.bind(alloc, outer.len() as u32, outer, over)?,
         indexes: item.indexes.copy(alloc)?,
         need: item.need.copy(alloc)?,
         order: item.order.copy(alloc)?,
@@ -394,7 +399,7 @@ pub fn open_item<R: Reader>(
     ensures short { IfOk result (λ v. has_short (query_of v) (R.shown reader.now) ≡ true → Settled v × (fetches_left v (R.shown reader.now) ≤ 20)) }
     ensures only { OnlyLeaves steps.old steps.new }
 {
-    let query = query(alloc, asked, outer)?;
+    let query = query(alloc, asked, over.take_only(), outer)?;
     Access::open(
         alloc,
         reader,

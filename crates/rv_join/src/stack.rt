@@ -23,7 +23,7 @@ ghost use Rattle.rv_access.specs.Stepping.{SameCourse};
 ghost use Rattle.rv_access.specs.Opened.{Opened, is_race, life_of};
 ghost use Rattle.rv_judge.specs.Tracing.{CountsAll, CountsRise, SameCounts};
 
-use crate::level::{Caught, Level};
+use crate::level::{Caught, Level, Room};
 use crate::places::{Asked, open_item};
 use rv_access::Over;
 use rv_jscan::{Given, Sieved, Taken};
@@ -53,7 +53,7 @@ pub struct Stack {
     above: Vec<Level>,
     at: Level,
     openings: u64,
-    over: Over,
+    room: Room,
 }
 
 impl Model for Stack {
@@ -95,7 +95,7 @@ pub fn open<R: Reader>(
     ensures only { OnlyLeaves steps.old steps.new }
     ensures row { IfOk result (λ s. s.at.row ≡ None) }
 {
-    let here = open_item(alloc, reader, asked, &mut Over::new(), &[], 1, steps)?;
+    let here = open_item(alloc, reader, asked, &mut Over::new(alloc), &[], 1, steps)?;
     Ok(Stack {
         above: Vec::new(alloc),
         at: Level {
@@ -104,7 +104,7 @@ pub fn open<R: Reader>(
             here,
         },
         openings: 1,
-        over: Over::new(),
+        room: Room::new(alloc),
     })
 }
 
@@ -118,12 +118,8 @@ impl Stack {
     {
         match self.above.pop() {
             Some(level) => {
-                let Level {
-                    outer: _,
-                    row: _,
-                    here,
-                } = mem::replace(&mut self.at, level);
-                self.over.keep(here);
+                let ended = mem::replace(&mut self.at, level);
+                self.room.keep(ended);
                 true
             }
             None => false,
@@ -166,7 +162,7 @@ impl Stack {
         alloc: Global,
         reader: &R,
         asked: &Asked,
-        over: &mut Over,
+        room: &mut Room,
         steps: &mut Steps<R::Ledger>,
     ) -> Result<Level, NoMemory>
         requires can { CanRun asked.now (R.shown reader.now) }
@@ -181,7 +177,7 @@ impl Stack {
             Some(row) => {
                 let opening = self.openings.saturating_add(1);
                 self.at
-                    .inner(alloc, reader, asked, over, row, opening, steps)
+                    .inner(alloc, reader, asked, room, row, opening, steps)
             }
             None => unreachable!(),
         }
@@ -271,9 +267,9 @@ impl Stack {
         ensures goes { GoesOn asked.now (R.shown reader.now) steps.old steps.new self.old self.new }
         ensures err { OnErr result (self.new ≡ self.old) }
     {
-        let mut over = mem::replace(&mut self.over, Over::new());
-        let inner = self.inner(alloc, reader, asked, &mut over, steps)?;
-        drop(mem::replace(&mut self.over, over));
+        let mut room = mem::replace(&mut self.room, Room::new(alloc));
+        let inner = self.inner(alloc, reader, asked, &mut room, steps)?;
+        drop(mem::replace(&mut self.room, room));
         self.descend(inner)?;
         Ok(Moved::Moving)
     }
