@@ -7,6 +7,7 @@ ghost use Rattle.rv_scan.specs.Told.{width};
 ghost use Rattle.rv_retrieval.specs.Shape.{is_building};
 ghost use Rattle.rv_retrieval.specs.Short.{OnlyLeaves};
 ghost use Rattle.rv_access.specs.Accesses.{control_of};
+ghost use Rattle.rv_access.specs.Memory.{kept};
 ghost use Rattle.rv_join.specs.Alone.{Fetches, LevelSpends, StepsOnce};
 ghost use Rattle.rv_join.specs.Asking.{CanRun, item_at};
 ghost use Rattle.rv_join.specs.Levels.{LevelFits, offered, reads_on, reads_whole, widened};
@@ -43,7 +44,11 @@ pub struct Room {
 
 impl Room {
     /// No memory.
-    pub fn new(alloc: Global) -> Room {
+    pub fn new(alloc: Global) -> Room
+        ensures retrieval { result.access.retrieval ≡ None }
+        ensures candidates { result.access.candidates.items ≡ [] }
+        ensures rows { result.rows.items ≡ [] }
+    {
         Room {
             access: Over::new(alloc),
             rows: Vec::new(alloc),
@@ -51,7 +56,10 @@ impl Room {
     }
 
     /// Keeps the memory of a level that is over.
-    pub fn keep(&mut self, level: Level) {
+    pub fn keep(&mut self, level: Level)
+        ensures access { self.new.access ≡ record self.old.access { retrieval = kept level.here self.old.access.retrieval } }
+        ensures rows { self.new.rows.items ≡ level.outer }
+    {
         let Level {
             outer,
             row: _,

@@ -67,7 +67,16 @@ fn retrieve<R: Reader<Ledger = Uncounted>>(
     };
     let query = query(alloc, table, asked)?;
     let mut steps = Steps::new(Uncounted);
-    let mut access = Access::open(alloc, reader, &mut Over::new(alloc), query, asked.race, 1, 1, &mut steps)?;
+    let mut access = Access::open(
+        alloc,
+        reader,
+        &mut Over::new(alloc),
+        query,
+        asked.race,
+        1,
+        1,
+        &mut steps,
+    )?;
     match drive(alloc, reader, &mut access, &mut judge, way, &mut steps) {
         Ok(driven) => Ok((driven, access)),
         Err(NoMemory) => {
