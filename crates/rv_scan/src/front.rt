@@ -43,63 +43,6 @@ impl Front {
         }
     }
 
-    fn is_alone(&self) -> bool
-        ensures { result ≡ self.now.alone }
-    {
-        self.alone
-    }
-
-    fn fetch<R: Reader>(
-        &mut self,
-        reader: &R,
-        only: &Restriction,
-        skip: &Skip<'_>,
-        steps: &mut Steps<R::Ledger>,
-    ) -> Result<Scanned, NoMemory>
-        requires with_fetches { self.old.alone ≡ Rattle.std.specs.Prelude.false }
-        requires can { CanFront self.old only.now self.old.fetching.table (R.shown reader.now) (walk_of self.old).snap }
-        requires ready { IsReady (skipped skip.now) }
-        ensures same { SameFront self.old self.new }
-        ensures follows { Follows (walk_of self.old) ((R.shown reader.now).entries (walk_of self.old).index (walk_of self.old).snap) → Follows (walk_of self.new) ((R.shown reader.now).entries (walk_of self.old).index (walk_of self.old).snap) }
-        ensures step { let shown = R.shown reader.now in let entries = shown.entries (walk_of self.old).index (walk_of self.old).snap in let cuts = shown.cuts (walk_of self.old).index (walk_of self.old).snap in let rows = shown.rows self.old.fetching.table (walk_of self.old).snap in IfOk result (λ scanned. StepsTo scanned (front_rest self.old entries rows only.now (skipped skip.now)) (leaf_work (walk_of self.old) entries cuts) (front_rest self.new entries rows only.now (skipped skip.now)) (leaf_work (walk_of self.new) entries cuts)) }
-        ensures fetches { IfOk result (λ scanned. FetchesDue (skipped skip.now) only.now ((R.shown reader.now).rows self.old.fetching.table (walk_of self.old).snap) scanned steps.old steps.new) }
-        ensures err { OnErr result (self.new ≡ self.old) }
-        ensures once { reads steps.new ≤ reads steps.old + 1 }
-        ensures none { IfOk result (λ scanned. ReadsNone scanned steps.old steps.new) }
-        ensures records { let entries = (R.shown reader.now).entries (walk_of self.old).index (walk_of self.old).snap in IfOk result (λ scanned. steps.new.records + front_fetches self.new entries (skipped skip.now) ≤ steps.old.records + front_fetches self.old entries (skipped skip.now)) }
-        ensures pages { steps.new.pages ≡ steps.old.pages }
-        ensures may_read { FrontMayRead self.old.alone steps.old steps.new }
-        ensures reads { IfOk result (λ s. FrontReads self.old.alone s steps.old steps.new) }
-    {
-        self.fetching.step(reader, only, skip, steps)
-    }
-
-    fn tell<R: Reader>(
-        &mut self,
-        reader: &R,
-        only: &Restriction,
-        skip: &Skip<'_>,
-        steps: &mut Steps<R::Ledger>,
-    ) -> Result<Scanned, NoMemory>
-        requires alone { self.old.alone ≡ true }
-        requires can { CanFront self.old only.now self.old.fetching.table (R.shown reader.now) (walk_of self.old).snap }
-        requires ready { IsReady (skipped skip.now) }
-        ensures same { SameFront self.old self.new }
-        ensures follows { Follows (walk_of self.old) ((R.shown reader.now).entries (walk_of self.old).index (walk_of self.old).snap) → Follows (walk_of self.new) ((R.shown reader.now).entries (walk_of self.old).index (walk_of self.old).snap) }
-        ensures step { let shown = R.shown reader.now in let entries = shown.entries (walk_of self.old).index (walk_of self.old).snap in let cuts = shown.cuts (walk_of self.old).index (walk_of self.old).snap in let rows = shown.rows self.old.fetching.table (walk_of self.old).snap in IfOk result (λ scanned. StepsTo scanned (front_rest self.old entries rows only.now (skipped skip.now)) (leaf_work (walk_of self.old) entries cuts) (front_rest self.new entries rows only.now (skipped skip.now)) (leaf_work (walk_of self.new) entries cuts)) }
-        ensures fetches { IfOk result (λ scanned. FetchesDue (skipped skip.now) only.now ((R.shown reader.now).rows self.old.fetching.table (walk_of self.old).snap) scanned steps.old steps.new) }
-        ensures err { OnErr result (self.new ≡ self.old) }
-        ensures once { reads steps.new ≤ reads steps.old + 1 }
-        ensures none { IfOk result (λ scanned. ReadsNone scanned steps.old steps.new) }
-        ensures records { let entries = (R.shown reader.now).entries (walk_of self.old).index (walk_of self.old).snap in IfOk result (λ scanned. steps.new.records + front_fetches self.new entries (skipped skip.now) ≤ steps.old.records + front_fetches self.old entries (skipped skip.now)) }
-        ensures pages { steps.new.pages ≡ steps.old.pages }
-        ensures may_read { FrontMayRead self.old.alone steps.old steps.new }
-        ensures reads { IfOk result (λ s. FrontReads self.old.alone s steps.old steps.new) }
-    {
-        self.fetching
-            .tell(reader, only, skip, self.columns.as_slice(), steps)
-    }
-
     /// The next row, or a read that brings it nearer.
     pub fn step<R: Reader>(
         &mut self,
@@ -122,10 +65,11 @@ impl Front {
         ensures may_read { FrontMayRead self.old.alone steps.old steps.new }
         ensures reads { IfOk result (λ s. FrontReads self.old.alone s steps.old steps.new) }
     {
-        if self.is_alone() {
-            self.tell(reader, only, skip, steps)
+        if self.alone {
+            self.fetching
+                .tell(reader, only, skip, self.columns.as_slice(), steps)
         } else {
-            self.fetch(reader, only, skip, steps)
+            self.fetching.step(reader, only, skip, steps)
         }
     }
 }

@@ -1,7 +1,0 @@
-use Rattle.rv_scan.specs.Due.{skipped}
-use Rattle.rv_scan.specs.Fronts.{walk_of}
-use Rattle.rv_scan.proofs.Telling.{told_fetches}
-use Rattle.rv_scan.proofs.front.Front.tell.Goals as goal
-
-pub returns-clause-fetches : goal.returns-clause-fetches
-returns-clause-fetches g c = told_fetches c.tell.result (skipped c.args.skip.now) c.args.only.now ((g.R.Reader.shown c.args.reader.now).rows c.args.self.now.fetching.table (walk_of c.args.self.now).snap) c.args.steps.now c.tell.new.steps c.tell.ensures.reads
