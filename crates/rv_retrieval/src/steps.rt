@@ -262,39 +262,6 @@ impl Retrieval {
         }
     }
 
-    fn building_step<R: Reader>(
-        &mut self,
-        reader: &R,
-        judge: &mut Box<dyn Judge>,
-        steps: &mut Steps<R::Ledger>,
-    ) -> Result<Scanned, NoMemory>
-        requires control { self.old.control ≡ Control.Building }
-        requires fits { RetrievalFits self.old (R.shown reader.now) }
-        ensures steady { Steady self.old self.new }
-        ensures fits { RetrievalFits self.new (R.shown reader.now) }
-        ensures step { IfOk result (DoesStep self.old self.new (R.shown reader.now)) }
-        ensures ends { IfOk result (EndsIn self.new) }
-        ensures err { OnErr result (rest self.new (R.shown reader.now) ≡ rest self.old (R.shown reader.now)) }
-        ensures does { (is_background self.old.control ≡ true → under_way self.old.joint ≡ true) → IfOk result (λ s. DoesIts (would judge.old) (state judge.old) (state judge.new) (R.shown reader.now) steps.old steps.new s self.old self.new) }
-        ensures quiet { OnErr result (state judge.new ≡ state judge.old) }
-        ensures may_read { (is_background self.old.control ≡ true → under_way self.old.joint ≡ true) → MayReadIts self.old steps.old steps.new }
-        ensures reads { (is_background self.old.control ≡ true → under_way self.old.joint ≡ true) → IfOk result (ReadsIts self.old steps.old steps.new) }
-        ensures still { OnErr result (OnlyTakes self.old self.new) }
-        ensures stays { would judge.new ≡ would judge.old }
-        ensures course { OnErr result (SameCourse self.old self.new) }
-        ensures tries { Tries steps.old steps.new (effort self.old (R.shown reader.now)) (effort self.new (R.shown reader.now)) }
-        ensures falls { Awaiting self.old → IfOk result (λ s. Falls s steps.old steps.new (effort self.old (R.shown reader.now)) (effort self.new (R.shown reader.now))) }
-    {
-        match self.strategy() {
-            Strategy::FastFirst => self.fast_step(reader, judge, steps),
-            Strategy::Sorted => self.front_step(reader, steps),
-            Strategy::IndexOnly => self.both_step(reader, steps),
-            Strategy::Table | Strategy::BackgroundOnly | Strategy::Union => {
-                self.background_step(reader, judge, steps)
-            }
-        }
-    }
-
     fn step<R: Reader>(
         &mut self,
         reader: &R,
@@ -323,7 +290,14 @@ impl Retrieval {
         ensures records { Settled self.old → IfOk result (λ s. steps.new.records + fetches_left self.new (R.shown reader.now) ≤ steps.old.records + fetches_left self.old (R.shown reader.now)) }
     {
         match self.control() {
-            Control::Building => self.building_step(reader, judge, steps),
+            Control::Building => match self.strategy() {
+                Strategy::FastFirst => self.fast_step(reader, judge, steps),
+                Strategy::Sorted => self.front_step(reader, steps),
+                Strategy::IndexOnly => self.both_step(reader, steps),
+                Strategy::Table | Strategy::BackgroundOnly | Strategy::Union => {
+                    self.background_step(reader, judge, steps)
+                }
+            },
             Control::ForegroundAlone => self.front_step(reader, steps),
             Control::BackgroundAlone => self.background_step(reader, judge, steps),
             Control::FinalList => match self.scan_list(reader, steps) {

@@ -1,87 +1,231 @@
-use Rattle.std.proofs.Common.{◌∙◌, ap, refl, sym}
+use Rattle.std.proofs.Common.{◌∙◌, ap, refl, sym, ◌≡◌, ◌⊎◌, ◌&&◌, inl, inr}
 use Rattle.rv_judge.specs.declared.events.Control.TheVariants.{ForegroundAlone, BackgroundAlone, FinalList, FinalTable}
 use Rattle.rv_value.proofs.Lists.{on_err}
 use Rattle.rv_retrieval.specs.Accounts.{fresh_of}
-use Rattle.rv_retrieval.specs.Shape.{is_background}
-use Rattle.rv_retrieval.specs.Stepping.{NextKey, NextPage, Piece, Walk}
-use Rattle.rv_retrieval.proofs.OfKinds.{course_if, does_by, key_does, kind_at, may_read_by, page_does, reads_always, reads_as, reads_by, rest_if, walk_does}
+use Rattle.rv_retrieval.specs.Shape.{is_background, is_building, is_index_only, source_of, while_building}
+use Rattle.rv_retrieval.specs.Stepping.{NextKey, NextPage, Piece, Walk, WalkBoth}
+use Rattle.rv_retrieval.proofs.OfKinds.{course_if, does_by, key_does, kind_at, may_read_by, page_does, reads_always, reads_as, reads_by, rest_if, walk_does, both_does, index_only_kind, sorted_kind}
 use Rattle.rv_retrieval.proofs.Waiting.{keys_only, only_if, steady_at}
 use Rattle.rv_retrieval.proofs.Controls.{done_rest, passed_rest}
 use Rattle.rv_retrieval.proofs.Listed.{at_course, at_settled, keys_fit, keys_try, list_control, list_does, list_ended_by, list_ends, list_falls, list_fits, list_keys, list_records, list_settled, list_steady, list_tries, not_done}
+use Rattle.rv_judge.specs.declared.events.Control.{Control}
+use Rattle.rv_judge.specs.declared.events.Strategy.{Strategy}
+use Rattle.rv_judge.specs.declared.events.Strategy.TheVariants.{Table, BackgroundOnly, Union}
+use Rattle.rv_retrieval.proofs.Stepped.{background_kind, piece_does}
 use Rattle.rv_retrieval.proofs.retrieval.Retrieval.step.Goals as goal
+
+of_one : (s r : Strategy) → r ≡ s → (r ≡ Table) ⊎ ((r ≡ BackgroundOnly) ⊎ (r ≡ Union)) → (s ≡ Table) ⊎ ((s ≡ BackgroundOnly) ⊎ (s ≡ Union))
+of_one s r is (inl table) = inl (sym is ∙ table)
+of_one s r is (inr (inl alone)) = inr (inl (sym is ∙ alone))
+of_one s r is (inr (inr union)) = inr (inr (sym is ∙ union))
+
+pub returns-in-FastFirst-clause-steady : goal.returns-in-FastFirst-clause-steady
+returns-in-FastFirst-clause-steady g c = c.fast_step.ensures.steady
+
+pub returns-in-FastFirst-clause-fits : goal.returns-in-FastFirst-clause-fits
+returns-in-FastFirst-clause-fits g c = c.fast_step.ensures.fits
+
+pub returns-in-FastFirst-clause-step : goal.returns-in-FastFirst-clause-step
+returns-in-FastFirst-clause-step g c = c.fast_step.ensures.step
+
+pub returns-in-FastFirst-clause-ends : goal.returns-in-FastFirst-clause-ends
+returns-in-FastFirst-clause-ends g c = c.fast_step.ensures.ends
+
+pub returns-in-FastFirst-clause-err : goal.returns-in-FastFirst-clause-err
+returns-in-FastFirst-clause-err g c = c.fast_step.ensures.err
+
+pub returns-in-FastFirst-clause-quiet : goal.returns-in-FastFirst-clause-quiet
+returns-in-FastFirst-clause-quiet g c = c.fast_step.ensures.quiet
+
+pub returns-in-FastFirst-clause-still : goal.returns-in-FastFirst-clause-still
+returns-in-FastFirst-clause-still g c = c.fast_step.ensures.still
+
+pub returns-in-FastFirst-clause-stays : goal.returns-in-FastFirst-clause-stays
+returns-in-FastFirst-clause-stays g c = c.fast_step.ensures.stays
+
+pub returns-in-FastFirst-clause-course : goal.returns-in-FastFirst-clause-course
+returns-in-FastFirst-clause-course g c = c.fast_step.ensures.course
+
+pub returns-in-FastFirst-clause-tries : goal.returns-in-FastFirst-clause-tries
+returns-in-FastFirst-clause-tries g c = c.fast_step.ensures.tries
+
+pub returns-in-FastFirst-clause-falls : goal.returns-in-FastFirst-clause-falls
+returns-in-FastFirst-clause-falls g c = c.fast_step.ensures.falls
+
+pub returns-in-FastFirst-clause-does : goal.returns-in-FastFirst-clause-does
+returns-in-FastFirst-clause-does g c way = c.fast_step.ensures.does (way (ap is_background (sym c.control.ensures ∙ c.in-Building.is)))
+
+pub returns-in-FastFirst-clause-may_read : goal.returns-in-FastFirst-clause-may_read
+returns-in-FastFirst-clause-may_read g c way = c.fast_step.ensures.may_read (way (ap is_background (sym c.control.ensures ∙ c.in-Building.is)))
+
+pub returns-in-FastFirst-clause-reads : goal.returns-in-FastFirst-clause-reads
+returns-in-FastFirst-clause-reads g c way = c.fast_step.ensures.reads (way (ap is_background (sym c.control.ensures ∙ c.in-Building.is)))
+
+pub returns-in-Sorted-clause-steady : goal.returns-in-Sorted-clause-steady
+returns-in-Sorted-clause-steady g c = c.front_step.ensures.steady
+
+pub returns-in-Sorted-clause-fits : goal.returns-in-Sorted-clause-fits
+returns-in-Sorted-clause-fits g c = c.front_step.ensures.fits
+
+pub returns-in-Sorted-clause-step : goal.returns-in-Sorted-clause-step
+returns-in-Sorted-clause-step g c = c.front_step.ensures.step
+
+pub returns-in-Sorted-clause-ends : goal.returns-in-Sorted-clause-ends
+returns-in-Sorted-clause-ends g c = c.front_step.ensures.ends
+
+pub returns-in-Sorted-clause-tries : goal.returns-in-Sorted-clause-tries
+returns-in-Sorted-clause-tries g c = c.front_step.ensures.tries
+
+pub returns-in-Sorted-clause-falls : goal.returns-in-Sorted-clause-falls
+returns-in-Sorted-clause-falls g c a = c.front_step.ensures.falls
+
+pub returns-in-Sorted-clause-err : goal.returns-in-Sorted-clause-err
+returns-in-Sorted-clause-err g c = rest_if c.front_step.result c.args.self.now c.front_step.new.self (g.R.Reader.shown c.args.reader.now) c.front_step.ensures.err
+
+pub returns-in-Sorted-clause-still : goal.returns-in-Sorted-clause-still
+returns-in-Sorted-clause-still g c = only_if c.front_step.result c.args.self.now c.front_step.new.self c.front_step.ensures.err
+
+pub returns-in-Sorted-clause-course : goal.returns-in-Sorted-clause-course
+returns-in-Sorted-clause-course g c = course_if c.front_step.result c.args.self.now c.front_step.new.self c.front_step.ensures.err
+
+pub returns-in-Sorted-clause-quiet : goal.returns-in-Sorted-clause-quiet
+returns-in-Sorted-clause-quiet g c = on_err _ _ refl
+
+pub returns-in-Sorted-clause-stays : goal.returns-in-Sorted-clause-stays
+returns-in-Sorted-clause-stays g c = refl
+
+pub returns-in-Sorted-clause-does : goal.returns-in-Sorted-clause-does
+returns-in-Sorted-clause-does g c way = walk_does c.front_step.result _ _ (g.R.Reader.shown c.args.reader.now) c.args.steps.now c.front_step.new.steps c.args.self.now c.front_step.new.self (sorted_kind c.args.self.now.control c.args.self.now.strategy (fresh_of c.args.self.now) (sym c.control.ensures ∙ c.in-Building.is) (sym c.strategy.ensures ∙ c.in-Sorted.is)) c.front_step.ensures.fetches c.front_step.ensures.does
+
+pub returns-in-Sorted-clause-may_read : goal.returns-in-Sorted-clause-may_read
+returns-in-Sorted-clause-may_read g c way = may_read_by Walk c.args.self.now c.args.steps.now c.front_step.new.steps (sorted_kind c.args.self.now.control c.args.self.now.strategy (fresh_of c.args.self.now) (sym c.control.ensures ∙ c.in-Building.is) (sym c.strategy.ensures ∙ c.in-Sorted.is)) c.front_step.ensures.may_read
+
+pub returns-in-Sorted-clause-reads : goal.returns-in-Sorted-clause-reads
+returns-in-Sorted-clause-reads g c way = reads_by c.front_step.result Walk c.args.self.now c.args.steps.now c.front_step.new.steps (sorted_kind c.args.self.now.control c.args.self.now.strategy (fresh_of c.args.self.now) (sym c.control.ensures ∙ c.in-Building.is) (sym c.strategy.ensures ∙ c.in-Sorted.is)) c.front_step.ensures.reads
+
+pub returns-in-IndexOnly-clause-steady : goal.returns-in-IndexOnly-clause-steady
+returns-in-IndexOnly-clause-steady g c = c.both_step.ensures.steady
+
+pub returns-in-IndexOnly-clause-fits : goal.returns-in-IndexOnly-clause-fits
+returns-in-IndexOnly-clause-fits g c = c.both_step.ensures.fits
+
+pub returns-in-IndexOnly-clause-step : goal.returns-in-IndexOnly-clause-step
+returns-in-IndexOnly-clause-step g c = c.both_step.ensures.step
+
+pub returns-in-IndexOnly-clause-ends : goal.returns-in-IndexOnly-clause-ends
+returns-in-IndexOnly-clause-ends g c = c.both_step.ensures.ends
+
+pub returns-in-IndexOnly-clause-tries : goal.returns-in-IndexOnly-clause-tries
+returns-in-IndexOnly-clause-tries g c = c.both_step.ensures.tries
+
+pub returns-in-IndexOnly-clause-falls : goal.returns-in-IndexOnly-clause-falls
+returns-in-IndexOnly-clause-falls g c a = c.both_step.ensures.falls
+
+pub returns-in-IndexOnly-clause-err : goal.returns-in-IndexOnly-clause-err
+returns-in-IndexOnly-clause-err g c = rest_if c.both_step.result c.args.self.now c.both_step.new.self (g.R.Reader.shown c.args.reader.now) c.both_step.ensures.err
+
+pub returns-in-IndexOnly-clause-still : goal.returns-in-IndexOnly-clause-still
+returns-in-IndexOnly-clause-still g c = only_if c.both_step.result c.args.self.now c.both_step.new.self c.both_step.ensures.err
+
+pub returns-in-IndexOnly-clause-course : goal.returns-in-IndexOnly-clause-course
+returns-in-IndexOnly-clause-course g c = course_if c.both_step.result c.args.self.now c.both_step.new.self c.both_step.ensures.err
+
+pub returns-in-IndexOnly-clause-quiet : goal.returns-in-IndexOnly-clause-quiet
+returns-in-IndexOnly-clause-quiet g c = on_err _ _ refl
+
+pub returns-in-IndexOnly-clause-stays : goal.returns-in-IndexOnly-clause-stays
+returns-in-IndexOnly-clause-stays g c = refl
+
+pub returns-in-IndexOnly-clause-does : goal.returns-in-IndexOnly-clause-does
+returns-in-IndexOnly-clause-does g c way = both_does c.both_step.result _ _ (g.R.Reader.shown c.args.reader.now) c.args.steps.now c.both_step.new.steps c.args.self.now c.both_step.new.self (index_only_kind c.args.self.now.control c.args.self.now.strategy (fresh_of c.args.self.now) (sym c.control.ensures ∙ c.in-Building.is) (sym c.strategy.ensures ∙ c.in-IndexOnly.is)) c.both_step.ensures.does
+
+pub returns-in-IndexOnly-clause-may_read : goal.returns-in-IndexOnly-clause-may_read
+returns-in-IndexOnly-clause-may_read g c way = may_read_by WalkBoth c.args.self.now c.args.steps.now c.both_step.new.steps (index_only_kind c.args.self.now.control c.args.self.now.strategy (fresh_of c.args.self.now) (sym c.control.ensures ∙ c.in-Building.is) (sym c.strategy.ensures ∙ c.in-IndexOnly.is)) c.both_step.ensures.may_read
+
+pub returns-in-IndexOnly-clause-reads : goal.returns-in-IndexOnly-clause-reads
+returns-in-IndexOnly-clause-reads g c way = reads_by c.both_step.result WalkBoth c.args.self.now c.args.steps.now c.both_step.new.steps (index_only_kind c.args.self.now.control c.args.self.now.strategy (fresh_of c.args.self.now) (sym c.control.ensures ∙ c.in-Building.is) (sym c.strategy.ensures ∙ c.in-IndexOnly.is)) c.both_step.ensures.reads
+
+pub front_step-requires-clause-front : goal.front_step-requires-clause-front
+front_step-requires-clause-front g c = ap (λ (x : Control). source_of x c.args.self.now.strategy) (sym c.control.ensures ∙ c.in-Building.is) ∙ ap while_building (sym c.strategy.ensures ∙ c.in-Sorted.is)
+
+pub front_step-requires-clause-forgets : goal.front_step-requires-clause-forgets
+front_step-requires-clause-forgets g c = ap (λ (x : Control). is_building x && is_index_only c.args.self.now.strategy) (sym c.control.ensures ∙ c.in-Building.is) ∙ ap is_index_only (sym c.strategy.ensures ∙ c.in-Sorted.is)
+
+pub both_step-requires-clause-both : goal.both_step-requires-clause-both
+both_step-requires-clause-both g c = ap (λ (x : Control). is_building x && is_index_only c.args.self.now.strategy) (sym c.control.ensures ∙ c.in-Building.is) ∙ ap is_index_only (sym c.strategy.ensures ∙ c.in-IndexOnly.is)
+
+pub returns-in-Table-clause-steady : goal.returns-in-Table-clause-steady
+returns-in-Table-clause-steady g c = c.background_step.ensures.steady
+
+pub returns-in-Table-clause-fits : goal.returns-in-Table-clause-fits
+returns-in-Table-clause-fits g c = c.background_step.ensures.fits
+
+pub returns-in-Table-clause-step : goal.returns-in-Table-clause-step
+returns-in-Table-clause-step g c = c.background_step.ensures.step
+
+pub returns-in-Table-clause-ends : goal.returns-in-Table-clause-ends
+returns-in-Table-clause-ends g c = c.background_step.ensures.ends
+
+pub returns-in-Table-clause-err : goal.returns-in-Table-clause-err
+returns-in-Table-clause-err g c = c.background_step.ensures.err
+
+pub returns-in-Table-clause-quiet : goal.returns-in-Table-clause-quiet
+returns-in-Table-clause-quiet g c = c.background_step.ensures.quiet
+
+pub returns-in-Table-clause-still : goal.returns-in-Table-clause-still
+returns-in-Table-clause-still g c = c.background_step.ensures.still
+
+pub returns-in-Table-clause-stays : goal.returns-in-Table-clause-stays
+returns-in-Table-clause-stays g c = c.background_step.ensures.stays
+
+pub returns-in-Table-clause-course : goal.returns-in-Table-clause-course
+returns-in-Table-clause-course g c = c.background_step.ensures.course
+
+pub returns-in-Table-clause-tries : goal.returns-in-Table-clause-tries
+returns-in-Table-clause-tries g c = c.background_step.ensures.tries
+
+pub returns-in-Table-clause-falls : goal.returns-in-Table-clause-falls
+returns-in-Table-clause-falls g c a = c.background_step.ensures.falls (ap is_background (sym c.control.ensures ∙ c.in-Building.is)) a
+
+pub returns-in-Table-clause-may_read : goal.returns-in-Table-clause-may_read
+returns-in-Table-clause-may_read g c way = may_read_by Piece c.args.self.now c.args.steps.now c.background_step.new.steps (background_kind c.args.self.now.control c.args.self.now.strategy (fresh_of c.args.self.now) (sym c.control.ensures ∙ c.in-Building.is) (of_one _ c.strategy.result c.strategy.ensures c.in-Table.is)) c.background_step.ensures.reads
+
+pub returns-in-Table-clause-reads : goal.returns-in-Table-clause-reads
+returns-in-Table-clause-reads g c way = reads_always c.background_step.result Piece c.args.self.now c.args.steps.now c.background_step.new.steps (background_kind c.args.self.now.control c.args.self.now.strategy (fresh_of c.args.self.now) (sym c.control.ensures ∙ c.in-Building.is) (of_one _ c.strategy.result c.strategy.ensures c.in-Table.is)) (λ s. c.background_step.ensures.reads)
+
+pub returns-in-Table-clause-does : goal.returns-in-Table-clause-does
+returns-in-Table-clause-does g c way = piece_does c.background_step.result _ _ _ (g.R.Reader.shown c.args.reader.now) c.args.steps.now c.background_step.new.steps c.args.self.now c.background_step.new.self (sym c.control.ensures ∙ c.in-Building.is) (of_one _ c.strategy.result c.strategy.ensures c.in-Table.is) c.background_step.ensures.does
 
 pub returns-in-Done-clause-step : goal.returns-in-Done-clause-step
 returns-in-Done-clause-step g c =
     let none = done_rest c.args.self.now (g.R.Reader.shown c.args.reader.now) (sym c.control.ensures ∙ c.in-Done.is) in (none, none)
 
-pub returns-in-Building-clause-steady : goal.returns-in-Building-clause-steady
-returns-in-Building-clause-steady g c = c.building_step.ensures.steady
-
-pub returns-in-Building-clause-fits : goal.returns-in-Building-clause-fits
-returns-in-Building-clause-fits g c = c.building_step.ensures.fits
-
-pub returns-in-Building-clause-step : goal.returns-in-Building-clause-step
-returns-in-Building-clause-step g c = c.building_step.ensures.step
-
-pub returns-in-Building-clause-ends : goal.returns-in-Building-clause-ends
-returns-in-Building-clause-ends g c = c.building_step.ensures.ends
-
-pub returns-in-Building-clause-err : goal.returns-in-Building-clause-err
-returns-in-Building-clause-err g c = c.building_step.ensures.err
-
-pub returns-in-Building-clause-does : goal.returns-in-Building-clause-does
-returns-in-Building-clause-does g c = c.building_step.ensures.does
-
-pub returns-in-Building-clause-quiet : goal.returns-in-Building-clause-quiet
-returns-in-Building-clause-quiet g c = c.building_step.ensures.quiet
-
-pub returns-in-Building-clause-may_read : goal.returns-in-Building-clause-may_read
-returns-in-Building-clause-may_read g c = c.building_step.ensures.may_read
-
-pub returns-in-Building-clause-reads : goal.returns-in-Building-clause-reads
-returns-in-Building-clause-reads g c = c.building_step.ensures.reads
-
-pub returns-in-Building-clause-still : goal.returns-in-Building-clause-still
-returns-in-Building-clause-still g c = c.building_step.ensures.still
-
-pub returns-in-Building-clause-stays : goal.returns-in-Building-clause-stays
-returns-in-Building-clause-stays g c = c.building_step.ensures.stays
-
-pub returns-in-Building-clause-course : goal.returns-in-Building-clause-course
-returns-in-Building-clause-course g c = c.building_step.ensures.course
-
-pub returns-in-Building-clause-tries : goal.returns-in-Building-clause-tries
-returns-in-Building-clause-tries g c = c.building_step.ensures.tries
-
-pub returns-in-Building-clause-falls : goal.returns-in-Building-clause-falls
-returns-in-Building-clause-falls g c = c.building_step.ensures.falls
-
 pub returns-in-ForegroundAlone-clause-steady : goal.returns-in-ForegroundAlone-clause-steady
-returns-in-ForegroundAlone-clause-steady g c = c.front_step.ensures.steady
+returns-in-ForegroundAlone-clause-steady g c = c.front_step-in-ForegroundAlone.ensures.steady
 
 pub returns-in-ForegroundAlone-clause-fits : goal.returns-in-ForegroundAlone-clause-fits
-returns-in-ForegroundAlone-clause-fits g c = c.front_step.ensures.fits
+returns-in-ForegroundAlone-clause-fits g c = c.front_step-in-ForegroundAlone.ensures.fits
 
 pub returns-in-ForegroundAlone-clause-step : goal.returns-in-ForegroundAlone-clause-step
-returns-in-ForegroundAlone-clause-step g c = c.front_step.ensures.step
+returns-in-ForegroundAlone-clause-step g c = c.front_step-in-ForegroundAlone.ensures.step
 
 pub returns-in-ForegroundAlone-clause-ends : goal.returns-in-ForegroundAlone-clause-ends
-returns-in-ForegroundAlone-clause-ends g c = c.front_step.ensures.ends
+returns-in-ForegroundAlone-clause-ends g c = c.front_step-in-ForegroundAlone.ensures.ends
 
 pub returns-in-ForegroundAlone-clause-tries : goal.returns-in-ForegroundAlone-clause-tries
-returns-in-ForegroundAlone-clause-tries g c = c.front_step.ensures.tries
+returns-in-ForegroundAlone-clause-tries g c = c.front_step-in-ForegroundAlone.ensures.tries
 
 pub returns-in-ForegroundAlone-clause-settled : goal.returns-in-ForegroundAlone-clause-settled
-returns-in-ForegroundAlone-clause-settled g c = c.front_step.ensures.settled
+returns-in-ForegroundAlone-clause-settled g c = c.front_step-in-ForegroundAlone.ensures.settled
 
 pub returns-in-ForegroundAlone-clause-err : goal.returns-in-ForegroundAlone-clause-err
-returns-in-ForegroundAlone-clause-err g c = rest_if c.front_step.result c.args.self.now c.front_step.new.self (g.R.Reader.shown c.args.reader.now) c.front_step.ensures.err
+returns-in-ForegroundAlone-clause-err g c = rest_if c.front_step-in-ForegroundAlone.result c.args.self.now c.front_step-in-ForegroundAlone.new.self (g.R.Reader.shown c.args.reader.now) c.front_step-in-ForegroundAlone.ensures.err
 
 pub returns-in-ForegroundAlone-clause-still : goal.returns-in-ForegroundAlone-clause-still
-returns-in-ForegroundAlone-clause-still g c = only_if c.front_step.result c.args.self.now c.front_step.new.self c.front_step.ensures.err
+returns-in-ForegroundAlone-clause-still g c = only_if c.front_step-in-ForegroundAlone.result c.args.self.now c.front_step-in-ForegroundAlone.new.self c.front_step-in-ForegroundAlone.ensures.err
 
 pub returns-in-ForegroundAlone-clause-course : goal.returns-in-ForegroundAlone-clause-course
-returns-in-ForegroundAlone-clause-course g c = course_if c.front_step.result c.args.self.now c.front_step.new.self c.front_step.ensures.err
+returns-in-ForegroundAlone-clause-course g c = course_if c.front_step-in-ForegroundAlone.result c.args.self.now c.front_step-in-ForegroundAlone.new.self c.front_step-in-ForegroundAlone.ensures.err
 
 pub returns-in-ForegroundAlone-clause-quiet : goal.returns-in-ForegroundAlone-clause-quiet
 returns-in-ForegroundAlone-clause-quiet g c = on_err _ _ refl
@@ -90,67 +234,67 @@ pub returns-in-ForegroundAlone-clause-stays : goal.returns-in-ForegroundAlone-cl
 returns-in-ForegroundAlone-clause-stays g c = refl
 
 pub returns-in-ForegroundAlone-clause-falls : goal.returns-in-ForegroundAlone-clause-falls
-returns-in-ForegroundAlone-clause-falls g c a = c.front_step.ensures.falls
+returns-in-ForegroundAlone-clause-falls g c a = c.front_step-in-ForegroundAlone.ensures.falls
 
 pub returns-in-ForegroundAlone-clause-does : goal.returns-in-ForegroundAlone-clause-does
-returns-in-ForegroundAlone-clause-does g c way = walk_does c.front_step.result _ _ (g.R.Reader.shown c.args.reader.now) c.args.steps.now c.front_step.new.steps c.args.self.now c.front_step.new.self (kind_at c.args.self.now.control ForegroundAlone c.args.self.now.strategy (fresh_of c.args.self.now) (sym c.control.ensures ∙ c.in-ForegroundAlone.is)) c.front_step.ensures.fetches c.front_step.ensures.does
+returns-in-ForegroundAlone-clause-does g c way = walk_does c.front_step-in-ForegroundAlone.result _ _ (g.R.Reader.shown c.args.reader.now) c.args.steps.now c.front_step-in-ForegroundAlone.new.steps c.args.self.now c.front_step-in-ForegroundAlone.new.self (kind_at c.args.self.now.control ForegroundAlone c.args.self.now.strategy (fresh_of c.args.self.now) (sym c.control.ensures ∙ c.in-ForegroundAlone.is)) c.front_step-in-ForegroundAlone.ensures.fetches c.front_step-in-ForegroundAlone.ensures.does
 
 pub returns-in-ForegroundAlone-clause-may_read : goal.returns-in-ForegroundAlone-clause-may_read
-returns-in-ForegroundAlone-clause-may_read g c way = may_read_by Walk c.args.self.now c.args.steps.now c.front_step.new.steps (kind_at c.args.self.now.control ForegroundAlone c.args.self.now.strategy (fresh_of c.args.self.now) (sym c.control.ensures ∙ c.in-ForegroundAlone.is)) c.front_step.ensures.may_read
+returns-in-ForegroundAlone-clause-may_read g c way = may_read_by Walk c.args.self.now c.args.steps.now c.front_step-in-ForegroundAlone.new.steps (kind_at c.args.self.now.control ForegroundAlone c.args.self.now.strategy (fresh_of c.args.self.now) (sym c.control.ensures ∙ c.in-ForegroundAlone.is)) c.front_step-in-ForegroundAlone.ensures.may_read
 
 pub returns-in-ForegroundAlone-clause-reads : goal.returns-in-ForegroundAlone-clause-reads
-returns-in-ForegroundAlone-clause-reads g c way = reads_by c.front_step.result Walk c.args.self.now c.args.steps.now c.front_step.new.steps (kind_at c.args.self.now.control ForegroundAlone c.args.self.now.strategy (fresh_of c.args.self.now) (sym c.control.ensures ∙ c.in-ForegroundAlone.is)) c.front_step.ensures.reads
+returns-in-ForegroundAlone-clause-reads g c way = reads_by c.front_step-in-ForegroundAlone.result Walk c.args.self.now c.args.steps.now c.front_step-in-ForegroundAlone.new.steps (kind_at c.args.self.now.control ForegroundAlone c.args.self.now.strategy (fresh_of c.args.self.now) (sym c.control.ensures ∙ c.in-ForegroundAlone.is)) c.front_step-in-ForegroundAlone.ensures.reads
 
 pub returns-in-ForegroundAlone-clause-records : goal.returns-in-ForegroundAlone-clause-records
-returns-in-ForegroundAlone-clause-records g c = c.front_step.ensures.records
+returns-in-ForegroundAlone-clause-records g c = c.front_step-in-ForegroundAlone.ensures.records
 
 pub returns-in-ForegroundAlone-clause-pages : goal.returns-in-ForegroundAlone-clause-pages
-returns-in-ForegroundAlone-clause-pages g c settled = c.front_step.ensures.pages
+returns-in-ForegroundAlone-clause-pages g c settled = c.front_step-in-ForegroundAlone.ensures.pages
 
 pub returns-in-ForegroundAlone-clause-unasked : goal.returns-in-ForegroundAlone-clause-unasked
 returns-in-ForegroundAlone-clause-unasked g c settled = refl
 
 pub returns-in-BackgroundAlone-clause-steady : goal.returns-in-BackgroundAlone-clause-steady
-returns-in-BackgroundAlone-clause-steady g c = c.background_step.ensures.steady
+returns-in-BackgroundAlone-clause-steady g c = c.background_step-in-BackgroundAlone.ensures.steady
 
 pub returns-in-BackgroundAlone-clause-fits : goal.returns-in-BackgroundAlone-clause-fits
-returns-in-BackgroundAlone-clause-fits g c = c.background_step.ensures.fits
+returns-in-BackgroundAlone-clause-fits g c = c.background_step-in-BackgroundAlone.ensures.fits
 
 pub returns-in-BackgroundAlone-clause-step : goal.returns-in-BackgroundAlone-clause-step
-returns-in-BackgroundAlone-clause-step g c = c.background_step.ensures.step
+returns-in-BackgroundAlone-clause-step g c = c.background_step-in-BackgroundAlone.ensures.step
 
 pub returns-in-BackgroundAlone-clause-ends : goal.returns-in-BackgroundAlone-clause-ends
-returns-in-BackgroundAlone-clause-ends g c = c.background_step.ensures.ends
+returns-in-BackgroundAlone-clause-ends g c = c.background_step-in-BackgroundAlone.ensures.ends
 
 pub returns-in-BackgroundAlone-clause-err : goal.returns-in-BackgroundAlone-clause-err
-returns-in-BackgroundAlone-clause-err g c = c.background_step.ensures.err
+returns-in-BackgroundAlone-clause-err g c = c.background_step-in-BackgroundAlone.ensures.err
 
 pub returns-in-BackgroundAlone-clause-quiet : goal.returns-in-BackgroundAlone-clause-quiet
-returns-in-BackgroundAlone-clause-quiet g c = c.background_step.ensures.quiet
+returns-in-BackgroundAlone-clause-quiet g c = c.background_step-in-BackgroundAlone.ensures.quiet
 
 pub returns-in-BackgroundAlone-clause-still : goal.returns-in-BackgroundAlone-clause-still
-returns-in-BackgroundAlone-clause-still g c = c.background_step.ensures.still
+returns-in-BackgroundAlone-clause-still g c = c.background_step-in-BackgroundAlone.ensures.still
 
 pub returns-in-BackgroundAlone-clause-stays : goal.returns-in-BackgroundAlone-clause-stays
-returns-in-BackgroundAlone-clause-stays g c = c.background_step.ensures.stays
+returns-in-BackgroundAlone-clause-stays g c = c.background_step-in-BackgroundAlone.ensures.stays
 
 pub returns-in-BackgroundAlone-clause-course : goal.returns-in-BackgroundAlone-clause-course
-returns-in-BackgroundAlone-clause-course g c = c.background_step.ensures.course
+returns-in-BackgroundAlone-clause-course g c = c.background_step-in-BackgroundAlone.ensures.course
 
 pub returns-in-BackgroundAlone-clause-tries : goal.returns-in-BackgroundAlone-clause-tries
-returns-in-BackgroundAlone-clause-tries g c = c.background_step.ensures.tries
+returns-in-BackgroundAlone-clause-tries g c = c.background_step-in-BackgroundAlone.ensures.tries
 
 pub returns-in-BackgroundAlone-clause-falls : goal.returns-in-BackgroundAlone-clause-falls
-returns-in-BackgroundAlone-clause-falls g c a = c.background_step.ensures.falls (ap is_background (sym c.control.ensures ∙ c.in-BackgroundAlone.is)) a
+returns-in-BackgroundAlone-clause-falls g c a = c.background_step-in-BackgroundAlone.ensures.falls (ap is_background (sym c.control.ensures ∙ c.in-BackgroundAlone.is)) a
 
 pub returns-in-BackgroundAlone-clause-does : goal.returns-in-BackgroundAlone-clause-does
-returns-in-BackgroundAlone-clause-does g c way = does_by c.background_step.result Piece _ _ _ (g.R.Reader.shown c.args.reader.now) c.args.steps.now c.background_step.new.steps c.args.self.now c.background_step.new.self (kind_at c.args.self.now.control BackgroundAlone c.args.self.now.strategy (fresh_of c.args.self.now) (sym c.control.ensures ∙ c.in-BackgroundAlone.is)) c.background_step.ensures.does
+returns-in-BackgroundAlone-clause-does g c way = does_by c.background_step-in-BackgroundAlone.result Piece _ _ _ (g.R.Reader.shown c.args.reader.now) c.args.steps.now c.background_step-in-BackgroundAlone.new.steps c.args.self.now c.background_step-in-BackgroundAlone.new.self (kind_at c.args.self.now.control BackgroundAlone c.args.self.now.strategy (fresh_of c.args.self.now) (sym c.control.ensures ∙ c.in-BackgroundAlone.is)) c.background_step-in-BackgroundAlone.ensures.does
 
 pub returns-in-BackgroundAlone-clause-may_read : goal.returns-in-BackgroundAlone-clause-may_read
-returns-in-BackgroundAlone-clause-may_read g c way = may_read_by Piece c.args.self.now c.args.steps.now c.background_step.new.steps (kind_at c.args.self.now.control BackgroundAlone c.args.self.now.strategy (fresh_of c.args.self.now) (sym c.control.ensures ∙ c.in-BackgroundAlone.is)) c.background_step.ensures.reads
+returns-in-BackgroundAlone-clause-may_read g c way = may_read_by Piece c.args.self.now c.args.steps.now c.background_step-in-BackgroundAlone.new.steps (kind_at c.args.self.now.control BackgroundAlone c.args.self.now.strategy (fresh_of c.args.self.now) (sym c.control.ensures ∙ c.in-BackgroundAlone.is)) c.background_step-in-BackgroundAlone.ensures.reads
 
 pub returns-in-BackgroundAlone-clause-reads : goal.returns-in-BackgroundAlone-clause-reads
-returns-in-BackgroundAlone-clause-reads g c way = reads_always c.background_step.result Piece c.args.self.now c.args.steps.now c.background_step.new.steps (kind_at c.args.self.now.control BackgroundAlone c.args.self.now.strategy (fresh_of c.args.self.now) (sym c.control.ensures ∙ c.in-BackgroundAlone.is)) (λ s. c.background_step.ensures.reads)
+returns-in-BackgroundAlone-clause-reads g c way = reads_always c.background_step-in-BackgroundAlone.result Piece c.args.self.now c.args.steps.now c.background_step-in-BackgroundAlone.new.steps (kind_at c.args.self.now.control BackgroundAlone c.args.self.now.strategy (fresh_of c.args.self.now) (sym c.control.ensures ∙ c.in-BackgroundAlone.is)) (λ s. c.background_step-in-BackgroundAlone.ensures.reads)
 
 pub returns-in-Ok-clause-steady : goal.returns-in-Ok-clause-steady
 returns-in-Ok-clause-steady g c =
