@@ -3,7 +3,6 @@
 restriction_table.py), and
 
   cut     a text, in which \\n and \\r are a line feed and a carriage return: its tokens, or the byte at which none begins
-  queue   acts on a queue of numbers, and what they find
   offers  an order value and a value returned of two offers, and how they are ordered
 
 whose answers were found by hand."""
@@ -62,13 +61,6 @@ FAULTS = [
     ("a/b", 1),
 ]
 
-QUEUES = [
-    ("front -, push 3, push 1, push 2, front -, get 2, get 3, push 7, remove 3, pop -, pop -, pop -, pop -",
-     "0 left, empty, found none 3 2 none 7 3 1 2 none"),
-    ("push 3, push 1, push 2", "3 left, found"),
-    ("push 3, push 1, push 2, remove 1, remove 2, front -", "2 left, found 1 none 3"),
-]  # fmt: skip
-
 OFFERS = [
     ("N 9,1 8", "less less less, another"),
     ("1 8,1 8", "equal equal equal, the same"),
@@ -83,9 +75,8 @@ def lines():
     told = [(text, tokens) for text, tokens in CUTS] + [(text, f"no token at {offset}") for text, offset in FAULTS]
     for text, found in told:
         yield "cut: " + text.replace("\n", "\\n").replace("\r", "\\r"), found
-    for word, pairs in [("queue", QUEUES), ("offers", OFFERS)]:
-        for text, found in pairs:
-            yield f"{word}: {text}", found
+    for text, found in OFFERS:
+        yield f"offers: {text}", found
 
 
 def main():

@@ -4,13 +4,11 @@
 pub mod entry;
 pub mod laws;
 pub mod offers;
-pub mod queue;
 pub mod state;
 pub mod transactions;
 pub mod words;
 
 pub use entry::Entry;
-pub use queue::Queue;
 pub use rv_lang::{Refusal, Reply, Rival, Shown, ShownEvent, Which};
 pub use state::{Cursor, Offer, State};
 pub use transactions::{Transaction, Transactions};

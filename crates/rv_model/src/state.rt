@@ -1,5 +1,4 @@
 //! The state of the one-thread database, as data.
-use crate::queue::Queue;
 use crate::transactions::Transactions;
 use rv_catalog::Catalog;
 use rv_rows::Rows;
@@ -19,7 +18,7 @@ pub struct Cursor {
     pub session: u8,
     pub name: Text,
     pub table: u32,
-    pub offers: Queue<Offer>,
+    pub offers: Items<Offer>,
 }
 
 /// The whole database. A table's number is its place in the schema and in `rows`, which are those

@@ -1,13 +1,13 @@
-//! Reads lines, each a word, a colon and what it says of values, restrictions, texts to be cut, queues or offers, and writes each
+//! Reads lines, each a word, a colon and what it says of values, restrictions, texts to be cut or offers, and writes each
 //! with what these answer. The file `stdout` has what tools/try_values.py finds by the rules in words.
 #![tactic(auto)]
 
 mod alone;
 mod fits;
 mod items;
+mod offers;
 mod orders;
 mod placing;
-mod queues;
 mod ranges;
 mod tokens;
 
@@ -38,8 +38,7 @@ fn answer(alloc: Global, line: &str) -> Result<String, Fault> {
         "items" => items::told(alloc, text),
         "pairs" => items::told_pairs(alloc, text),
         "cut" => tokens::told(alloc, text),
-        "queue" => queues::told(alloc, text),
-        "offers" => queues::told_offers(alloc, text),
+        "offers" => offers::told(alloc, text),
         _ => answer_of_ranges(alloc, word, text),
     }
 }

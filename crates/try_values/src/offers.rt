@@ -1,68 +1,10 @@
-//! Queues of numbers, and the order of offers.
-use rv_loading::{Fault, cut, number, place};
+//! The order of offers.
+use rv_loading::{Fault, cut};
+use rv_model::Offer;
 use rv_model::offers::cmp_offer;
-use rv_model::{Offer, Queue};
-use rv_value::{Items, NoMemory, Value, Values};
+use rv_value::{Items, Value, Values};
 use std::alloc::Global;
 use std::cmp::Ordering;
-
-fn tell(alloc: Global, told: &mut String, item: Option<u64>) -> Result<(), NoMemory> {
-    match item {
-        Some(item) => {
-            let word = format!(in alloc; " {item}")?;
-            told.push_str(word.as_str())?;
-        }
-        None => told.push_str(" none")?,
-    }
-    Ok(())
-}
-
-/// Takes the item of a place out, where there is one.
-fn remove(queue: &mut Queue<u64>, at: usize) -> Option<u64> {
-    if at < queue.len() {
-        queue.remove(at)
-    } else {
-        None
-    }
-}
-
-fn act(alloc: Global, queue: &mut Queue<u64>, told: &mut String, text: &str) -> Result<(), Fault> {
-    let (word, rest) = cut(text, ' ')?;
-    let item = match word {
-        "push" => {
-            queue.push(number(rest)?)?;
-            return Ok(());
-        }
-        "front" => queue.front().copied(),
-        "get" => queue.get(place(rest)?).copied(),
-        "remove" => remove(queue, place(rest)?),
-        "pop" => queue.pop_front(),
-        _ => return Err(Fault::Form),
-    };
-    Ok(tell(alloc, told, item)?)
-}
-
-fn empty_word(empty: bool) -> &'static str {
-    if empty { ", empty" } else { "" }
-}
-
-/// Does acts, and tells what they find.
-fn told_of(alloc: Global, queue: &mut Queue<u64>, text: &str) -> Result<String, Fault> {
-    let mut told = String::new(alloc);
-    'acts: for text in text.split(", ") {
-        act(alloc, queue, &mut told, text)?;
-    }
-    let (count, empty) = (queue.len(), empty_word(queue.is_empty()));
-    Ok(format!(in alloc; "{count} left{empty}, found{}", told.as_str())?)
-}
-
-/// Acts on the empty queue, parted by commas: `push N`, `front -`, `get PLACE`, `remove PLACE` and `pop -`; what each finds.
-pub fn told(alloc: Global, text: &str) -> Result<String, Fault> {
-    let mut queue = Queue::new(alloc);
-    let told = told_of(alloc, &mut queue, text);
-    drop(queue);
-    told
-}
 
 fn value(word: &str) -> Result<Value, Fault> {
     if word == "N" {
@@ -105,7 +47,7 @@ fn partial_word(order: Option<Ordering>) -> &'static str {
 }
 
 /// How two offers are ordered by each of their three orders, and whether they are the same.
-pub fn told_offers(alloc: Global, text: &str) -> Result<String, Fault> {
+pub fn told(alloc: Global, text: &str) -> Result<String, Fault> {
     let (first, second) = cut(text, ',')?;
     let first = offer(alloc, first)?;
     let second = match offer(alloc, second) {
