@@ -104,38 +104,17 @@ impl<S: Store + Reader<Ledger = Uncounted> + Drop> Engine<S> {
         let _found = self.history.reserve(calls);
     }
 
-    /// Makes a session's call under a judge, with so many background steps and such races as are set: the reply is given
-    /// and written to the history with the text. On `NoMemory` nothing is changed but how far the plans of cursors have
-    /// come.
-    pub(crate) fn call(
-        &mut self,
-        session: u8,
-        text: &str,
-        judge: &mut Box<dyn Judge>,
-        settings: Settings,
-    ) -> Result<Reply, NoMemory>
-        requires from { 1 ≤ session }
-        requires to { session ≤ 8 }
-        requires short { length text.now ≤ 4096 }
-        ensures ok { IfOk result (λ reply. Answers (under (S.shown self.old.store) (would judge.old) settings) (state judge.old) (state judge.new) self.old self.new session text.now reply) }
-        ensures err { OnErr result (Unanswered (under (S.shown self.old.store) (would judge.old) settings) (state judge.old) (state judge.new) self.old self.new session text.now) }
-        ensures rules { would judge.new ≡ would judge.old }
-        ensures sees { SeesSame (S.shown self.old.store) (S.shown self.new.store) self.new.opens }
-        ensures sound { IsSound self.new }
-    {
-        let copy = self.copied(text)?;
-        self.call_text(session, copy, judge, settings)
-    }
-
-    /// A copy of a text.
-    fn copied(&self, text: &str) -> Result<Text, NoMemory>
+    /// A copy of a text, as a call keeps it in the history.
+    pub(crate) fn copied(&self, text: &str) -> Result<Text, NoMemory>
         ensures copy { IfOk result (λ copy. copy ≡ text.now) }
         ensures sound { IsSound self.now }
     {
         Text::read(self.alloc, text)
     }
 
-    /// As `call`, of a text that goes into the history itself and not a copy of it. On `NoMemory` it is dropped.
+    /// Makes a session's call under a judge, with so many background steps and such races as are set: the reply is given
+    /// and written to the history with the text. On `NoMemory` the text is dropped, and nothing is changed but how far the
+    /// plans of cursors have come.
     #[tactic(auto, using(crate::proofs::Keeping::sees_same))]
     pub(crate) fn call_text(
         &mut self,
@@ -175,7 +154,7 @@ impl<S: Store + Reader<Ledger = Uncounted> + Drop> Engine<S> {
         Ok(reply)
     }
 
-    /// One turn's part of a call: as `call`, but that a FETCH makes one foreground step at most, with the background steps
+    /// One turn's part of a call: as `call_text`, but that a FETCH makes one foreground step at most, with the background steps
     /// behind it, and answers `Working` where that step only worked on.
     #[tactic(auto, using(crate::proofs::Keeping::sees_same))]
     pub(crate) fn call_step(

@@ -108,8 +108,9 @@ impl<S: Store + Reader<Ledger = Uncounted> + Drop> Core<S> {
         ensures sound { IsSound self.new.engine }
         ensures settings { self.new.settings ≡ self.old.settings }
     {
+        let copy = self.engine.copied(text)?;
         self.engine
-            .call(session, text, &mut self.judge, self.settings)
+            .call_text(session, copy, &mut self.judge, self.settings)
     }
 
     /// As `call`, of a text that goes into the history itself and not a copy of it. On `NoMemory` it is dropped.

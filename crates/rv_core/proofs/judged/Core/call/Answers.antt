@@ -1,7 +1,7 @@
 use Rattle.rv_value.proofs.Lists.{on_err}
 use Rattle.rv_core.proofs.Keeping.{sees_itself}
 use Rattle.rv_core.proofs.Soundness.{unanswered_same}
-use Rattle.rv_core.proofs.engine.Engine.call.Goals as goal
+use Rattle.rv_core.proofs.judged.Core.call.Goals as goal
 
 pub call_text-requires-clause-short : goal.call_text-requires-clause-short
 call_text-requires-clause-short g c = rw c.in_ok-copy.ensures.copy c.requires.short
