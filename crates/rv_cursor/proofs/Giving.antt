@@ -8,7 +8,7 @@ use Rattle.std.specs.declared.cmp.Ordering.TheVariants.{Less, Equal, Greater}
 use Rattle.rv_value.specs.declared.value.Value.{Value}
 use Rattle.rv_value.specs.Order.{values_cmp}
 use Rattle.rv_lang.specs.declared.reply.Reply.{Reply}
-use Rattle.rv_lang.specs.declared.reply.Reply.TheVariants.{Row, End}
+use Rattle.rv_lang.specs.declared.reply.Reply.TheVariants.{Row}
 use Rattle.rv_model.specs.declared.state.Offer.{Offer}
 use Rattle.rv_model.specs.Offers.{offer_cmp, offers_in_order, place_of, same_values, with_offer, without}
 use Rattle.rv_model.specs.Step.{Offers, offers_after}
@@ -116,6 +116,3 @@ gives_least o rest replies least twice first =
     let may : Offers (with_offer o (offers_in_order rest)) (Row o.returned) = rw place refl in
     let left : offers_in_order rest ≡ offers_after (with_offer o (offers_in_order rest)) (Row o.returned) = sym (ap (λ (p : Option ℕ). without p (with_offer o (offers_in_order rest))) place ∙ (found o (offers_in_order rest)).left) in
     (twice, rw first may, rw first left)
-
-pub gives_end : (offers : List Offer) (replies : Reply × Reply) → offers ≡ [] → replies.1 ≡ replies.0 → replies.0 ≡ End → TakesOffer offers replies offers
-gives_end offers replies none twice first = (twice, rw first none, rw first refl)

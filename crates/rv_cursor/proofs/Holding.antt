@@ -11,7 +11,7 @@ use Rattle.rv_model.specs.Offers.{offers_in_order}
 use Rattle.rv_model.proofs.Sorting.{sorted_moved}
 use Rattle.rv_join.specs.Order.{IsLeastOf}
 use Rattle.rv_join.specs.Plans.{PlanFits, PlanMoves, PlanStays, Planned, plan_rest}
-use Rattle.rv_join.specs.declared.plan.PlanStep.TheVariants.{Row as PlanRow, End as PlanEnd, Working}
+use Rattle.rv_join.specs.declared.plan.PlanStep.TheVariants.{Row as PlanRow, Working}
 use Rattle.rv_cursor.specs.declared.cursor.Open.{Open}
 use Rattle.rv_cursor.specs.Left.{CursorFits, SameCursor, Stays, TakesOffer, in_hand, left, seen_at, seen_by, to_come, to_do, work}
 use Rattle.rv_cursor.proofs.Giving.{gives_least}
@@ -108,12 +108,11 @@ nearer_beside shown c p new empty moves hand less =
     let at : work shown (record c { plan = p }) < work shown c = moves.work in
     rw (hand ∙ empty, empty) (omega (arith, at, less))
 
--- the end was found, and told twice
-end_told : (old new : List Offer) (replies : Reply × Reply) → old ≡ [] → new ≡ [] → (replies.0 ≡ End) × (replies.1 ≡ End) → TakesOffer old replies new
-end_told old new replies before after made = rw (before, after, made.0, made.1) (refl, refl, refl)
-
-pub end_takes : (shown : Shown) (c : Open) (p : Planned) (replies : Reply × Reply) → c.hand ≡ None → PlanMoves (seen_by shown c) PlanEnd c.plan p → (replies.0 ≡ End) × (replies.1 ≡ End) → TakesOffer (left shown c) replies (left shown (record c { plan = p }))
-end_takes shown c p replies empty moves made = end_told (left shown c) (left shown (record c { plan = p })) replies (none_left shown c empty moves.step.0) (none_left shown (record c { plan = p }) empty moves.step.1) made
+-- nothing is left, as before, and the end is told twice
+pub end_takes : (old new : List Offer) → new ≡ [] → new ≡ old → TakesOffer old (End, End) new
+end_takes old new none same =
+    let before : old ≡ [] = sym same ∙ none in
+    rw (before, none) (refl, refl, refl)
 
 -- what was left at first is given
 pub takes_then : (old mid new : List Offer) (replies : Reply × Reply) → mid ≡ old → TakesOffer mid replies new → TakesOffer old replies new

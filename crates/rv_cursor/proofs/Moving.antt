@@ -5,6 +5,7 @@ use Rattle.rv_judge.specs.declared.judging.Facts.{Facts}
 use Rattle.rv_judge.specs.Verdicts.{Ruling}
 use Rattle.rv_judge.specs.Counting.{one_more}
 use Rattle.rv_lang.specs.declared.reply.Reply.{Reply}
+use Rattle.rv_lang.specs.declared.reply.Reply.TheVariants.{End as TheEnd}
 use Rattle.rv_model.specs.declared.state.Offer.{Offer}
 use Rattle.rv_reader.specs.Shown.{Shown}
 use Rattle.rv_jscan.specs.Pieces.{Pieced}
@@ -22,6 +23,8 @@ use Rattle.rv_join.specs.Pieces.{GivesPiece, counted_up, plan_awaited, plan_piec
 use Rattle.rv_join.specs.Plans.{PlanFits, PlanKept, PlanMoves, PlanStays, Planned, WorkTo, plan_trace, plan_work}
 use Rattle.rv_join.specs.declared.plan.PlanStep.{PlanStep}
 use Rattle.rv_join.specs.declared.plan.PlanStep.TheVariants.{Row, End, Working}
+use Rattle.rv_cursor.specs.declared.fetching.Turned.{Turned}
+use Rattle.rv_cursor.specs.declared.fetching.Turned.TheVariants as turned
 use Rattle.rv_cursor.specs.Moves.{Beside, BesideBy, FetchMoves, GivesBack, LacksMemory, Move, Moves, MovesBy, MovesByAll, RepliesTo, Ruled, StepsBack, StepsBacks, StepsBeside, StepsFront, TakesOut, Turn, TurnMoves, TurnsOn, WorksPiece}
 use Rattle.rv_cursor.specs.Moves.Move.{Front, Take, Give}
 
@@ -153,9 +156,24 @@ beside_lacks most done w s t a b c seen less first builds lacks = record { done 
 pub turn_made : (step : PlanStep) (most : ℕ) (v w : ℕ → Facts → Ruling) (s t : Shown) (a b c : Ruled) → v ≡ w → s ≡ t → StepsFront (Some step) w t a b → (Beside most w t b c → BesideBy step most w t b c) → Beside most v s b c → Turn step most w t a c
 turn_made step most v w s t a b c rule seen front is beside = record { stepped = b; front = front; beside = is (turned (λ u x. Beside most u x b c) v w s t rule seen beside) }
 
--- one that brought a row, which is given
-pub turn_gives : (o : Offer) (hand : Option Offer) (replies : Reply × Reply) (most : ℕ) (v w : ℕ → Facts → Ruling) (s t : Shown) (after : ℕ) (a b : Ruled) (new given : Planned) → hand ≡ None → given ≡ new → v ≡ w → s ≡ t → StepsFront (Some (Row o)) w t a b → Beside most v s b (record { plan = new; judge = after }) → TurnMoves hand (Some replies) most w t a (record { plan = given; judge = after })
-turn_gives o hand replies most v w s t after a b new given empty same rule seen front beside = rw (empty, same) (Row o, refl, turn_made (Row o) most v w s t a b (record { plan = new; judge = after }) rule seen front (λ x. x) beside)
+-- one that brought a row
+pub turn_gives : (o : Offer) (hand : Option Offer) (replies : Reply × Reply) (most : ℕ) (v w : ℕ → Facts → Ruling) (s t : Shown) (a b c : Ruled) → hand ≡ None → v ≡ w → s ≡ t → StepsFront (Some (Row o)) w t a b → Beside most v s b c → TurnMoves hand (Some replies) most w t a c
+turn_gives o hand replies most v w s t a b c empty rule seen front beside = rw empty (Row o, refl, turn_made (Row o) most v w s t a b c rule seen front (λ x. x) beside)
+
+-- the row in hand is given behind a turn, which leaves the plan
+pub turn_given : (hand : Option Offer) (part : Option (Reply × Reply)) (most : ℕ) (would : ℕ → Facts → Ruling) (shown : Shown) (after : ℕ) (old : Ruled) (new given : Planned) → given ≡ new → TurnMoves hand part most would shown old (record { plan = new; judge = after }) → TurnMoves hand part most would shown old (record { plan = given; judge = after })
+turn_given hand part most would shown after old new given same turn = rw same turn
+
+-- some replies, where it matters only whether there are any
+pub none_told : Reply × Reply
+none_told = (TheEnd, TheEnd)
+
+-- a turn behind which replies are made works on no more
+pub held_is_no_work : {X : Type 0} → ◌≡◌ {A = Turned} turned.Held turned.Working → X
+held_is_no_work e = absurd (cc)
+
+pub end_is_no_work : {X : Type 0} → ◌≡◌ {A = Turned} turned.End turned.Working → X
+end_is_no_work e = absurd (cc)
 
 -- one that works on
 pub turn_works : (hand : Option Offer) (most : ℕ) (v w : ℕ → Facts → Ruling) (s t : Shown) (a b c : Ruled) → hand ≡ None → v ≡ w → s ≡ t → StepsFront (Some Working) w t a b → Beside most v s b c → TurnMoves hand None most w t a c

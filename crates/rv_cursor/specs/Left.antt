@@ -1,5 +1,5 @@
 -- What a cursor has left to offer.
-use Rattle.std.specs.Prelude.{◌≡◌, ℕ, ◌+◌, List, [], ◌∷◌, ◌++◌, Option, Some, None, IfSome}
+use Rattle.std.specs.Prelude.{◌≡◌, ℕ, ◌+◌, List, [], ◌∷◌, ◌++◌, Option, Some, None, IfSome, IsSome}
 use Rattle.rv_lang.specs.declared.reply.Reply.{Reply}
 use Rattle.rv_model.specs.declared.state.Offer.{Offer}
 use Rattle.rv_model.specs.Offers.{offers_in_order}
@@ -11,6 +11,8 @@ use Rattle.rv_view.specs.Sights.{LaysSome, laid_over}
 use Rattle.rv_join.specs.Order.{IsLeastOf}
 use Rattle.rv_join.specs.Plans.{PlanFits, plan_rest, plan_work}
 use Rattle.rv_cursor.specs.declared.cursor.Open.{Open}
+use Rattle.rv_cursor.specs.declared.fetching.Turned.{Turned}
+use Rattle.rv_cursor.specs.declared.fetching.Turned.TheVariants as turned
 
 -- the reader at one snapshot alone, with what a transaction froze laid over it where it had changes
 abbrev pub seen_at : Shown → ℕ → Option Frozen → Shown
@@ -75,3 +77,9 @@ TakesOffer old replies new = (replies.1 ≡ replies.0) × Offers old replies.0 �
 abbrev pub TakesPart : List Offer → Option (Reply × Reply) → List Offer → Type 0
 TakesPart old (Some replies) new = TakesOffer old replies new
 TakesPart old None new = new ≡ old
+
+-- what a turn of a FETCH leaves in hand: a row, or none; at the end nothing is left either
+abbrev pub LeavesHand : Turned → List Offer → Option Offer → Type 0
+LeavesHand turned.Held offers hand = IsSome hand
+LeavesHand turned.End offers hand = (hand ≡ None) × (offers ≡ [])
+LeavesHand turned.Working offers hand = hand ≡ None

@@ -21,6 +21,8 @@ use Rattle.rv_join.specs.Plans.{PlanFits, PlanMoves, PlanStays, Planned, plan_tr
 use Rattle.rv_join.specs.declared.plan.PlanStep.{PlanStep}
 use Rattle.rv_join.specs.declared.plan.PlanStep.TheVariants.{Row, End, Working}
 use Rattle.rv_cursor.specs.declared.cursor.Open.{Open}
+use Rattle.rv_cursor.specs.declared.fetching.Turned.{Turned}
+use Rattle.rv_cursor.specs.declared.fetching.Turned.TheVariants as turned
 
 -- a plan, and where the judge stands that rules on its scans
 pub record Ruled : Type 0 where
@@ -181,6 +183,12 @@ abbrev pub RepliesTo : PlanStep → Option (Reply × Reply) → Type 0
 RepliesTo (Row o) replies = IsSome replies
 RepliesTo End replies = IsSome replies
 RepliesTo Working replies = replies ≡ None
+
+-- the replies that are made behind a turn: these, or none yet where the plan works on
+abbrev pub part_of : Turned → Reply × Reply → Option (Reply × Reply)
+part_of turned.Held replies = Some replies
+part_of turned.End replies = Some replies
+part_of turned.Working replies = None
 
 -- where a row is in hand, it is given and nothing else is done
 abbrev pub TurnMoves : Option Offer → Option (Reply × Reply) → ℕ → (ℕ → Facts → Ruling) → Shown → Ruled → Ruled → Type 0

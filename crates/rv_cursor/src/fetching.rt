@@ -1,13 +1,14 @@
 //! FETCH and STEP of a cursor.
 ghost use Rattle.std.specs.Prelude.{◌≡◌, ◌<◌, ◌≤◌, None, IfNone, IfOk, IfSome, IsSome, OnErr, OnOk};
+ghost use Rattle.rv_lang.specs.declared.reply.Reply.{Reply as OneReply};
 ghost use Rattle.rv_lang.specs.declared.reply.Reply.TheVariants.{Row};
 ghost use Rattle.rv_reader.specs.Shown.{Shown};
 ghost use Rattle.rv_join.specs.Pieces.{counted_up, plan_awaited, plan_pieces};
-ghost use Rattle.rv_cursor.specs.Left.{CursorFits, SameCursor, Stays, TakesOffer, TakesPart, left, seen_by, to_do, work};
-ghost use Rattle.rv_cursor.specs.Moves.{Beside, FetchMoves, Moves, StepsBacks, TurnMoves, ruled};
+ghost use Rattle.rv_cursor.specs.Left.{CursorFits, LeavesHand, SameCursor, Stays, TakesOffer, TakesPart, left, seen_by, to_do, work};
+ghost use Rattle.rv_cursor.specs.Moves.{Beside, FetchMoves, Moves, StepsBacks, TurnMoves, part_of, ruled};
+ghost use Rattle.rv_cursor.specs.declared.fetching.Turned.TheVariants.{Working};
 
 use crate::cursor::{Open, work_piece};
-use crate::replies::twice;
 use crate::sight::Sight;
 use rv_join::PlanStep;
 use rv_judge::{Judge, Steps};
@@ -17,6 +18,17 @@ use rv_reader::Reader;
 use rv_value::{Duplicate, NoMemory, Values};
 use rv_view::Snapshot;
 use std::alloc::Global;
+
+/// What a turn of a FETCH comes to.
+#[derive(Clone, Copy)]
+pub(crate) enum Turned {
+    /// A row is in hand.
+    Held,
+    /// Nothing is left.
+    End,
+    /// The plan works on.
+    Working,
+}
 
 /// The replies of the offer that was in hand: its row, which moves into the first, and a copy of it.
 fn replies_of(given: Option<Offer>, copy: Values) -> (Reply, Reply)
@@ -46,7 +58,7 @@ fn give(alloc: Global, cursor: &mut Open) -> Result<(Reply, Reply), NoMemory>
     ensures err { OnErr result (cursor.new ≡ cursor.old) }
 {
     let Some(offer) = &cursor.hand else {
-        return twice(alloc, Reply::End);
+        return Ok((Reply::End, Reply::End));
     };
     let kept = offer.returned.copy(alloc)?;
     let given = cursor.hand.take();
@@ -83,6 +95,48 @@ fn work_beside<R: Reader>(
     }
 }
 
+/// One turn of a FETCH, which makes no reply: where no row is in hand the plan is stepped, and its row is in hand then.
+fn turn<R: Reader>(
+    cursor: &mut Open,
+    reader: &R,
+    judge: &mut Box<dyn Judge>,
+    beside: u8,
+    steps: &mut Steps<R::Ledger>,
+) -> Result<Turned, NoMemory>
+    requires fits { CursorFits (R.shown reader.now) cursor.old }
+    ensures stays { Stays (R.shown reader.now) cursor.old cursor.new }
+    ensures hand { IfOk result (λ turned. LeavesHand turned (left (R.shown reader.now) cursor.new) cursor.new.hand) }
+    ensures nearer { IfOk result (λ turned. turned ≡ Working → to_do (R.shown reader.now) cursor.new < to_do (R.shown reader.now) cursor.old) }
+    ensures turn { (replies : OneReply × OneReply) → IfOk result (λ turned. TurnMoves cursor.old.hand (part_of turned replies) beside (would judge.old) (seen_by (R.shown reader.now) cursor.old) (ruled cursor.old (state judge.old)) (ruled cursor.new (state judge.new))) }
+    ensures held { IsSome cursor.old.hand → ruled cursor.new (state judge.new) ≡ ruled cursor.old (state judge.old) }
+    ensures moves { Moves (would judge.old) (seen_by (R.shown reader.now) cursor.old) (ruled cursor.old (state judge.old)) (ruled cursor.new (state judge.new)) }
+    ensures stays_rule { would judge.new ≡ would judge.old }
+{
+    if cursor.hand.is_some() {
+        return Ok(Turned::Held);
+    }
+    let at = Snapshot {
+        reader,
+        snap: cursor.snap,
+    };
+    let seen = Sight {
+        at,
+        view: &cursor.frozen,
+    };
+    match cursor.plan.step(&seen, judge, steps)? {
+        PlanStep::Row(offer) => {
+            drop(cursor.hand.replace(offer));
+            work_beside(cursor, reader, judge, beside, steps);
+            Ok(Turned::Held)
+        }
+        PlanStep::Working => {
+            work_beside(cursor, reader, judge, beside, steps);
+            Ok(Turned::Working)
+        }
+        PlanStep::End => Ok(Turned::End),
+    }
+}
+
 /// One turn of a FETCH, behind which another call may come: a row of those left, none of which comes before it, or End
 /// where none is left; None exactly where the plan's step answered that it works on.
 pub fn fetch_step<R: Reader>(
@@ -105,29 +159,14 @@ pub fn fetch_step<R: Reader>(
     ensures moves { Moves (would judge.old) (seen_by (R.shown reader.now) cursor.old) (ruled cursor.old (state judge.old)) (ruled cursor.new (state judge.new)) }
     ensures stays_rule { would judge.new ≡ would judge.old }
 {
-    if cursor.hand.is_some() {
-        let replies = give(alloc, cursor)?;
-        return Ok(Some(replies));
-    }
-    let at = Snapshot {
-        reader,
-        snap: cursor.snap,
-    };
-    let seen = Sight {
-        at,
-        view: &cursor.frozen,
-    };
-    match cursor.plan.step(&seen, judge, steps)? {
-        PlanStep::Row(offer) => {
-            drop(cursor.hand.replace(offer));
-            work_beside(cursor, reader, judge, beside, steps);
-            Ok(Some(give(alloc, cursor)?))
+    match turn(cursor, reader, judge, beside, steps) {
+        Ok(Turned::Held) => {
+            let replies = give(alloc, cursor)?;
+            Ok(Some(replies))
         }
-        PlanStep::Working => {
-            work_beside(cursor, reader, judge, beside, steps);
-            Ok(None)
-        }
-        PlanStep::End => Ok(Some(twice(alloc, Reply::End)?)),
+        Ok(Turned::End) => Ok(Some((Reply::End, Reply::End))),
+        Ok(Turned::Working) => Ok(None),
+        Err(NoMemory) => Err(NoMemory),
     }
 }
 
@@ -154,9 +193,10 @@ pub fn fetch<R: Reader>(
     ensures stays_rule { would judge.new ≡ would judge.old }
 {
     'turns: loop {
-        match fetch_step(alloc, cursor, reader, judge, beside, steps) {
-            Ok(Some(replies)) => return Ok(replies),
-            Ok(None) => {}
+        match turn(cursor, reader, judge, beside, steps) {
+            Ok(Turned::Held) => return give(alloc, cursor),
+            Ok(Turned::End) => return Ok((Reply::End, Reply::End)),
+            Ok(Turned::Working) => {}
             Err(NoMemory) => return Err(NoMemory),
         }
     }
