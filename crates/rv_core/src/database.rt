@@ -17,10 +17,10 @@ ghost use Rattle.rv_lang.specs.declared.reply.Reply.TheVariants.{Opened, Refused
 
 use crate::cursors::{close_all, close_at, cursor_named, opening, plan_cursor, step_at, trace_at};
 use crate::pieces::{give_at, next_waiting, numbered, take_at};
-use crate::replies::{answered, limit, named_trace, refused};
+use crate::replies::{answered, limit, named_trace, refused, twice};
 use crate::storing::{add_index, add_table, change_rows, commit_own, freeze, insert_row};
 use rv_catalog::{Catalog, IndexDef, Select, TableDef};
-use rv_cursor::{Open, fetch, fetch_step, twice};
+use rv_cursor::{Open, fetch, fetch_step};
 use rv_jscan::{Given, Sieved, Taken};
 use rv_judge::{Judge, Steps, Uncounted};
 use rv_lang::{Refusal, Reply, Rival, Which};

@@ -7,11 +7,23 @@ ghost use Rattle.rv_model.specs.Showing.{shown_event, shown_trace};
 ghost use Rattle.rv_core.specs.Doing.{parted};
 
 use rv_catalog::IndexDef;
-use rv_cursor::twice;
 use rv_judge::{Event, Trace};
 use rv_lang::{Refusal, Reply, Shown, ShownEvent, Which};
 use rv_value::{Duplicate, Items, NoMemory, Shared, Text};
 use std::alloc::Global;
+
+/// A reply and its copy.
+pub fn twice(alloc: Global, reply: Reply) -> Result<(Reply, Reply), NoMemory>
+    ensures { IfOk result (λ replies. (replies.0 ≡ reply) × (replies.1 ≡ reply)) }
+{
+    match reply.copy(alloc) {
+        Ok(copy) => Ok((reply, copy)),
+        Err(fault) => {
+            drop(reply);
+            Err(fault)
+        }
+    }
+}
 
 /// A refusal, twice.
 pub fn refused(alloc: Global, refusal: Refusal) -> Result<(Reply, Reply), NoMemory>

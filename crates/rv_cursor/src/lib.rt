@@ -4,10 +4,8 @@
 pub mod cursor;
 pub mod fetching;
 pub mod laws;
-pub mod replies;
 pub mod sight;
 
 pub use cursor::{Open, open_cursor};
 pub use fetching::{fetch, fetch_step, step};
-pub use replies::twice;
 pub use sight::Sight;
