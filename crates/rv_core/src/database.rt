@@ -17,7 +17,7 @@ ghost use Rattle.rv_lang.specs.declared.reply.Reply.TheVariants.{Opened, Refused
 
 use crate::cursors::{close_all, close_at, cursor_named, opening, plan_cursor, step_at, trace_at};
 use crate::pieces::{give_at, next_waiting, numbered, take_at};
-use crate::replies::{answered, limit, named_trace, refused, twice};
+use crate::replies::{answered, limit, named_trace, no_cursor, refused, twice};
 use crate::storing::{add_index, add_table, change_rows, commit_own, freeze, insert_row};
 use rv_catalog::{Catalog, IndexDef, Select, TableDef};
 use rv_cursor::{Open, fetch, fetch_step};
@@ -388,23 +388,22 @@ impl<S: Store + Reader<Ledger = Uncounted> + Drop> Database<S> {
     pub fn fetch(
         &mut self,
         session: u8,
-        name: Text,
+        name: &Text,
         judge: &mut Box<dyn Judge>,
         beside: u8,
     ) -> Result<(Reply, Reply), NoMemory>
         ensures sees { SeesSame (S.shown self.old.store) (S.shown self.new.store) self.new.opens }
-        ensures ok { IfOk result (λ replies. Fetches self.old.stand session name replies self.new.stand) }
+        ensures ok { IfOk result (λ replies. Fetches self.old.stand session name.now replies self.new.stand) }
         ensures err { OnErr result (self.new.stand ≡ self.old.stand) }
         ensures opened { self.new.opened ≡ self.old.opened }
-        ensures moves { IfOk result (λ replies. MovesNamed (FetchOf beside (would judge.old)) (S.shown self.old.store) (open_named self.old.opens session name) (plans_of self.old (state judge.old)) (plans_of self.new (state judge.new))) }
+        ensures moves { IfOk result (λ replies. MovesNamed (FetchOf beside (would judge.old)) (S.shown self.old.store) (open_named self.old.opens session name.now) (plans_of self.old (state judge.old)) (plans_of self.new (state judge.new))) }
         ensures refuses { (refusal : TheRefusal) → IfOk result (λ replies. replies.0 ≡ Refused refusal → plans_of self.new (state judge.new) ≡ plans_of self.old (state judge.old)) }
-        ensures lost { OnErr result (MovesNamed (AnyOf (would judge.old)) (S.shown self.old.store) (open_named self.old.opens session name) (plans_of self.old (state judge.old)) (plans_of self.new (state judge.new))) }
+        ensures lost { OnErr result (MovesNamed (AnyOf (would judge.old)) (S.shown self.old.store) (open_named self.old.opens session name.now) (plans_of self.old (state judge.old)) (plans_of self.new (state judge.new))) }
         ensures rules { would judge.new ≡ would judge.old }
     {
-        let Some(place) = cursor_named(&self.cursors, session, &name) else {
-            return refused(self.alloc, Refusal::NoCursor(name));
+        let Some(place) = cursor_named(&self.cursors, session, name) else {
+            return no_cursor(self.alloc, name);
         };
-        drop(name);
         let mut steps = Steps::new(Uncounted);
         fetch(
             self.alloc,
@@ -421,24 +420,23 @@ impl<S: Store + Reader<Ledger = Uncounted> + Drop> Database<S> {
     pub fn fetch_step(
         &mut self,
         session: u8,
-        name: Text,
+        name: &Text,
         judge: &mut Box<dyn Judge>,
         beside: u8,
     ) -> Result<Option<(Reply, Reply)>, NoMemory>
         ensures sees { SeesSame (S.shown self.old.store) (S.shown self.new.store) self.new.opens }
-        ensures ok { IfOk result (PartIs (λ replies. Fetches self.old.stand session name replies self.new.stand) (self.new ≡ record self.old { opens = self.new.opens })) }
+        ensures ok { IfOk result (PartIs (λ replies. Fetches self.old.stand session name.now replies self.new.stand) (self.new ≡ record self.old { opens = self.new.opens })) }
         ensures err { OnErr result (self.new.stand ≡ self.old.stand) }
         ensures opened { self.new.opened ≡ self.old.opened }
-        ensures moves { IfOk result (PartIs (λ replies. MovesNamed (FetchOf beside (would judge.old)) (S.shown self.old.store) (open_named self.old.opens session name) (plans_of self.old (state judge.old)) (plans_of self.new (state judge.new))) (IsSome (open_named self.old.opens session name) × MovesNamed (TurnOf None beside (would judge.old)) (S.shown self.old.store) (open_named self.old.opens session name) (plans_of self.old (state judge.old)) (plans_of self.new (state judge.new)))) }
+        ensures moves { IfOk result (PartIs (λ replies. MovesNamed (FetchOf beside (would judge.old)) (S.shown self.old.store) (open_named self.old.opens session name.now) (plans_of self.old (state judge.old)) (plans_of self.new (state judge.new))) (IsSome (open_named self.old.opens session name.now) × MovesNamed (TurnOf None beside (would judge.old)) (S.shown self.old.store) (open_named self.old.opens session name.now) (plans_of self.old (state judge.old)) (plans_of self.new (state judge.new)))) }
         ensures refuses { (refusal : TheRefusal) → IfOk result (PartIs (λ replies. replies.0 ≡ Refused refusal → plans_of self.new (state judge.new) ≡ plans_of self.old (state judge.old)) (Unit {0})) }
-        ensures turn { IfOk result (PartIs (λ replies. MovesNamed (TurnOf (Some (replies.0, replies.0)) beside (would judge.old)) (S.shown self.old.store) (open_named self.old.opens session name) (plans_of self.old (state judge.old)) (plans_of self.new (state judge.new))) (Unit {0})) }
-        ensures lost { OnErr result (MovesNamed (AnyOf (would judge.old)) (S.shown self.old.store) (open_named self.old.opens session name) (plans_of self.old (state judge.old)) (plans_of self.new (state judge.new))) }
+        ensures turn { IfOk result (PartIs (λ replies. MovesNamed (TurnOf (Some (replies.0, replies.0)) beside (would judge.old)) (S.shown self.old.store) (open_named self.old.opens session name.now) (plans_of self.old (state judge.old)) (plans_of self.new (state judge.new))) (Unit {0})) }
+        ensures lost { OnErr result (MovesNamed (AnyOf (would judge.old)) (S.shown self.old.store) (open_named self.old.opens session name.now) (plans_of self.old (state judge.old)) (plans_of self.new (state judge.new))) }
         ensures rules { would judge.new ≡ would judge.old }
     {
-        let Some(place) = cursor_named(&self.cursors, session, &name) else {
-            return answered(refused(self.alloc, Refusal::NoCursor(name)));
+        let Some(place) = cursor_named(&self.cursors, session, name) else {
+            return answered(no_cursor(self.alloc, name));
         };
-        drop(name);
         let mut steps = Steps::new(Uncounted);
         fetch_step(
             self.alloc,

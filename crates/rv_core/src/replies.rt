@@ -1,6 +1,6 @@
 //! Replies, made twice: one for the caller, one for the history.
 ghost use Rattle.std.specs.Prelude.{◌≡◌, IfOk};
-ghost use Rattle.rv_lang.specs.declared.reply.Refusal.TheVariants.{Limit as LimitPassed};
+ghost use Rattle.rv_lang.specs.declared.reply.Refusal.TheVariants.{Limit as LimitPassed, NoCursor};
 ghost use Rattle.rv_lang.specs.declared.reply.Reply.TheVariants.{Refused};
 ghost use Rattle.rv_model.specs.Database.{index_at};
 ghost use Rattle.rv_model.specs.Showing.{shown_event, shown_trace};
@@ -31,6 +31,14 @@ pub fn refused(alloc: Global, refusal: Refusal) -> Result<(Reply, Reply), NoMemo
 {
     let reply = Reply::refused(alloc, refusal)?;
     twice(alloc, reply)
+}
+
+/// The refusal of a name under which the session has no cursor open, twice.
+pub fn no_cursor(alloc: Global, name: &Text) -> Result<(Reply, Reply), NoMemory>
+    ensures { IfOk result (λ replies. (replies.0 ≡ Refused (NoCursor name.now)) × (replies.1 ≡ Refused (NoCursor name.now))) }
+{
+    let copy = name.copy(alloc)?;
+    refused(alloc, Refusal::NoCursor(copy))
 }
 
 /// A call that is answered in one turn.

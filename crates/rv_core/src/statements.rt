@@ -4,7 +4,6 @@ ghost use Rattle.rv_parse.specs.Needed.{HasParts};
 ghost use Rattle.rv_parse.specs.Reading.{statement_of};
 ghost use Rattle.rv_catalog.specs.Answers.{Gives};
 ghost use Rattle.rv_catalog.specs.Fits.{FitsSchema};
-ghost use Rattle.rv_catalog.specs.Limits.{is_long};
 ghost use Rattle.rv_catalog.specs.Schema.{Schema as TheSchema};
 ghost use Rattle.rv_model.specs.Standing.{HasRoom};
 ghost use Rattle.rv_model.specs.Step.{understood};
@@ -23,7 +22,7 @@ use rv_judge::{Judge, Uncounted};
 use rv_lang::{Refusal, Reply, Statement};
 use rv_parse::Readings;
 use rv_reader::{Reader, Store};
-use rv_value::{Duplicate, NoMemory, Text};
+use rv_value::{NoMemory, Text};
 use std::alloc::Global;
 
 /// The reply to a text, twice, with the step that it makes.
@@ -52,12 +51,16 @@ pub fn answer<S: Store + Reader<Ledger = Uncounted> + Drop>(
 {
     let place = readings.keep(text)?;
     let statement = readings.at(place);
-    if let Some(cursor) = fetched(alloc, statement)? {
+    if let Some(cursor) = fetched(statement) {
         return database.fetch(session, cursor, judge, settings.steps);
     }
     match understand(database.catalog(), statement) {
         Ok(asked) => match fetch_name(asked) {
-            Ok(name) => database.fetch(session, name, judge, settings.steps),
+            Ok(name) => {
+                let replies = database.fetch(session, &name, judge, settings.steps);
+                drop(name);
+                replies
+            }
             Err(other) => perform(database, session, other, judge, settings),
         },
         Err(BindFault::Refused(refusal)) => refused(alloc, refusal),
@@ -101,23 +104,16 @@ pub fn answer_step<S: Store + Reader<Ledger = Uncounted> + Drop>(
 }
 
 /// The name of the cursor of a FETCH whose name is not too long, which is all that there is to look up of it.
-fn fetched(alloc: Global, statement: &Option<Statement>) -> Result<Option<Text>, NoMemory>
-    ensures { (schema : TheSchema) → IfOk result (λ name. IfSome name (λ name. understood schema statement.now ≡ Ok (Fetch name))) }
+fn fetched(statement: &Option<Statement>) -> Option<&Text>
+    ensures { (schema : TheSchema) → IfSome result (λ name. understood schema statement.now ≡ Ok (Fetch name.now)) }
 {
-    match statement {
-        Some(Statement::Fetch { cursor }) => short_name(alloc, cursor),
-        _ => Ok(None),
+    let Some(Statement::Fetch { cursor }) = statement else {
+        return None;
+    };
+    if long_name(cursor) {
+        return None;
     }
-}
-
-/// A copy of a name, where it is not too long.
-fn short_name(alloc: Global, name: &Text) -> Result<Option<Text>, NoMemory>
-    ensures { IfOk result (λ short. IfSome short (λ short. (short ≡ name.now) × (is_long name.now ≡ false))) }
-{
-    if long_name(name) {
-        return Ok(None);
-    }
-    Ok(Some(name.copy(alloc)?))
+    Some(cursor)
 }
 
 /// The name of the cursor of a FETCH, or else what is asked.
@@ -157,7 +153,11 @@ fn turn<S: Store + Reader<Ledger = Uncounted> + Drop>(
     ensures unopened { OnErr result (database.new.opened ≡ database.old.opened) }
 {
     match fetch_name(asked) {
-        Ok(name) => database.fetch_step(session, name, judge, settings.steps),
+        Ok(name) => {
+            let part = database.fetch_step(session, &name, judge, settings.steps);
+            drop(name);
+            part
+        }
         Err(other) => answered(perform(database, session, other, judge, settings)),
     }
 }

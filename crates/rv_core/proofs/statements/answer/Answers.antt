@@ -11,23 +11,20 @@ use Rattle.rv_core.proofs.statements.answer.Goals as goal
 pub returns-in_err-place-clause-lost : goal.returns-in_err-place-clause-lost
 returns-in_err-place-clause-lost g c = on_err _ _ (leaves_text _ _ _ _ _)
 
-pub returns-in_err-cursor-clause-lost : goal.returns-in_err-cursor-clause-lost
-returns-in_err-cursor-clause-lost g c = on_err _ _ (leaves_text _ _ _ _ _)
-
 pub returns-in-Some-clause-ok : goal.returns-in-Some-clause-ok
 returns-in-Some-clause-ok g c =
-    let fetches = rw (c.in-Some.is, c.at-statement.ensures.is, c.in_ok-place.ensures.is) at (c.in_ok-cursor.ensures c.args.database.now.stand.db.schema) in
-    IfOk-weaker c.fetch.result _ _ (λ replies k. executes (statement_of c.args.text.now) (Fetch c.in-Some.cursor) _ _ _ replies fetches k) c.fetch.ensures.ok
+    let fetches = rw (c.in-Some.is, c.at-statement.ensures.is, c.in_ok-place.ensures.is) at (c.fetched.ensures c.args.database.now.stand.db.schema) in
+    IfOk-weaker c.fetch.result _ _ (λ replies k. executes (statement_of c.args.text.now) (Fetch c.in-Some.cursor.now) _ _ _ replies fetches k) c.fetch.ensures.ok
 
 pub returns-in-Some-clause-handles : goal.returns-in-Some-clause-handles
 returns-in-Some-clause-handles g c =
-    let fetches = rw (c.in-Some.is, c.at-statement.ensures.is, c.in_ok-place.ensures.is) at (c.in_ok-cursor.ensures c.args.database.now.stand.db.schema) in
-    if_ok_two c.fetch.result _ _ _ (λ replies handles refused. handles_text _ (statement_of c.args.text.now) (Ok (Fetch c.in-Some.cursor)) _ _ replies.0 _ _ fetches handles refused) c.fetch.ensures.moves (ok_each c.fetch.result _ c.fetch.ensures.refuses)
+    let fetches = rw (c.in-Some.is, c.at-statement.ensures.is, c.in_ok-place.ensures.is) at (c.fetched.ensures c.args.database.now.stand.db.schema) in
+    if_ok_two c.fetch.result _ _ _ (λ replies handles refused. handles_text _ (statement_of c.args.text.now) (Ok (Fetch c.in-Some.cursor.now)) _ _ replies.0 _ _ fetches handles refused) c.fetch.ensures.moves (ok_each c.fetch.result _ c.fetch.ensures.refuses)
 
 pub returns-in-Some-clause-lost : goal.returns-in-Some-clause-lost
 returns-in-Some-clause-lost g c =
-    let fetches = rw (c.in-Some.is, c.at-statement.ensures.is, c.in_ok-place.ensures.is) at (c.in_ok-cursor.ensures c.args.database.now.stand.db.schema) in
-    on_err_weaker c.fetch.result (λ k. leaves_asked _ _ (Ok (Fetch c.in-Some.cursor)) _ _ _ _ fetches k) c.fetch.ensures.lost
+    let fetches = rw (c.in-Some.is, c.at-statement.ensures.is, c.in_ok-place.ensures.is) at (c.fetched.ensures c.args.database.now.stand.db.schema) in
+    on_err_weaker c.fetch.result (λ k. leaves_asked _ _ (Ok (Fetch c.in-Some.cursor.now)) _ _ _ _ fetches k) c.fetch.ensures.lost
 
 pub perform-requires-clause-fits : goal.perform-requires-clause-fits
 perform-requires-clause-fits g c = rw c.in-Err.ensures.other.0 (rw c.catalog.ensures at c.in-Ok.ensures.fits)

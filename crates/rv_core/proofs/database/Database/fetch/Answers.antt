@@ -30,7 +30,7 @@ pub returns-clause-ok : goal.returns-clause-ok
 returns-clause-ok g c =
     let shown = g.S.Reader.shown c.self.inside.store in
     let named = sym (c.cursor_named.ensures.seen shown) ∙ c.in-Some.is in
-    rw (← c.self.view_is) (IfOk-weaker c.fetch.result _ _ (λ replies takes. fetches_named shown c.self.inside.catalog c.self.inside.txns c.self.inside.cursors c.args.session c.in-Some.place c.args.name c.at_mut.result.now c.fetch.new.cursor replies named c.at_mut.ensures.value c.fetch.ensures.same takes) c.fetch.ensures.ok)
+    rw (← c.self.view_is) (IfOk-weaker c.fetch.result _ _ (λ replies takes. fetches_named shown c.self.inside.catalog c.self.inside.txns c.self.inside.cursors c.args.session c.in-Some.place c.args.name.now c.at_mut.result.now c.fetch.new.cursor replies named c.at_mut.ensures.value c.fetch.ensures.same takes) c.fetch.ensures.ok)
 
 pub returns-clause-err : goal.returns-clause-err
 returns-clause-err g c =
@@ -55,17 +55,17 @@ returns-clause-lost g c =
 pub returns-in_default-clause-ok : goal.returns-in_default-clause-ok
 returns-in_default-clause-ok g c =
     let none = sym (c.cursor_named.ensures.seen (g.S.Reader.shown c.self.inside.store)) ∙ c.in_default.is in
-    rw (← c.self.view_is) (IfOk-weaker c.refused.result _ _ (λ replies k. refused_fetch _ c.args.session c.args.name replies none k) c.refused.ensures)
+    rw (← c.self.view_is) (IfOk-weaker c.no_cursor.result _ _ (λ replies k. refused_fetch _ c.args.session c.args.name.now replies none k) c.no_cursor.ensures)
 
 pub returns-in_default-clause-moves : goal.returns-in_default-clause-moves
 returns-in_default-clause-moves g c =
     let none = sym c.cursor_named.ensures.named ∙ c.in_default.is in
-    rw (← c.self.view_is, none) (any_ok c.refused.result _ (λ replies. refl))
+    rw (← c.self.view_is, none) (any_ok c.no_cursor.result _ (λ replies. refl))
 
 pub returns-in_default-clause-refuses : goal.returns-in_default-clause-refuses
-returns-in_default-clause-refuses g c refusal = any_ok c.refused.result _ (λ replies same. refl)
+returns-in_default-clause-refuses g c refusal = any_ok c.no_cursor.result _ (λ replies same. refl)
 
 pub returns-in_default-clause-lost : goal.returns-in_default-clause-lost
 returns-in_default-clause-lost g c =
     let none = sym c.cursor_named.ensures.named ∙ c.in_default.is in
-    rw (← c.self.view_is, none) (on_err c.refused.result _ refl)
+    rw (← c.self.view_is, none) (on_err c.no_cursor.result _ refl)
