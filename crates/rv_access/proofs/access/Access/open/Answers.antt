@@ -14,5 +14,5 @@ open_chosen-opened-requires-clause-choice g c = chosen_for c.args.query c.choose
 pub returns-then-raced-clause-opened : goal.returns-then-raced-clause-opened
 returns-then-raced-clause-opened g c = raced c.open_raced-opened.result c.args.race c.args.query (g.R.Reader.shown c.args.reader.now) c.args.cursor c.args.opening c.choose-choice.result c.as_slice-2.result.now c.as_slice.result.now c.as_slice-3.result.now c.as_slice-2.ensures (c.as_slice.ensures.value ∙ c.in-Ok.ensures.are) (c.as_slice-3.ensures.value ∙ c.in-Ok.ensures.are) c.choose-choice.ensures (sym c.will_race-raced.ensures ∙ c.if-raced.true) c.open_raced-opened.ensures.races
 
-pub returns-clause-opened : goal.returns-clause-opened
-returns-clause-opened g c = unraced c.open_chosen-opened.result c.args.race c.args.query (g.R.Reader.shown c.args.reader.now) c.args.cursor c.args.opening c.choose-choice.result c.as_slice-2.result.now c.as_slice.result.now c.as_slice-3.result.now c.as_slice-2.ensures (c.as_slice.ensures.value ∙ c.in-Ok.ensures.are) (c.as_slice-3.ensures.value ∙ c.in-Ok.ensures.are) c.choose-choice.ensures (sym c.will_race-raced.ensures ∙ c.if-raced.false) c.open_chosen-opened.ensures.opened
+pub returns-else-raced-clause-opened : goal.returns-else-raced-clause-opened
+returns-else-raced-clause-opened g c = unraced c.open_chosen-opened.result c.args.race c.args.query (g.R.Reader.shown c.args.reader.now) c.args.cursor c.args.opening c.choose-choice.result c.as_slice-2.result.now c.as_slice.result.now c.as_slice-3.result.now c.as_slice-2.ensures (c.as_slice.ensures.value ∙ c.in-Ok.ensures.are) (c.as_slice-3.ensures.value ∙ c.in-Ok.ensures.are) c.choose-choice.ensures (sym c.will_race-raced.ensures ∙ c.if-raced.false) c.open_chosen-opened.ensures.opened
