@@ -24,7 +24,7 @@ use Rattle.rv_join.specs.Plans.{PlanFits, PlanKept, PlanMoves, PlanStays, Planne
 use Rattle.rv_join.specs.declared.plan.PlanStep.{PlanStep}
 use Rattle.rv_join.specs.declared.plan.PlanStep.TheVariants.{Row, End, Working}
 use Rattle.rv_cursor.specs.declared.fetching.Turned.{Turned}
-use Rattle.rv_cursor.specs.declared.fetching.Turned.TheVariants as turned
+use Rattle.rv_cursor.specs.declared.fetching.Turned.TheVariants as comes
 use Rattle.rv_cursor.specs.Moves.{Beside, BesideBy, FetchMoves, GivesBack, LacksMemory, Move, Moves, MovesBy, MovesByAll, RepliesTo, Ruled, StepsBack, StepsBacks, StepsBeside, StepsFront, TakesOut, Turn, TurnMoves, TurnsOn, WorksPiece}
 use Rattle.rv_cursor.specs.Moves.Move.{Front, Take, Give}
 
@@ -169,10 +169,10 @@ pub none_told : Reply × Reply
 none_told = (TheEnd, TheEnd)
 
 -- a turn behind which replies are made works on no more
-pub held_is_no_work : {X : Type 0} → ◌≡◌ {A = Turned} turned.Held turned.Working → X
+pub held_is_no_work : {X : Type 0} → ◌≡◌ {A = Turned} comes.Held comes.Working → X
 held_is_no_work e = absurd (cc)
 
-pub end_is_no_work : {X : Type 0} → ◌≡◌ {A = Turned} turned.End turned.Working → X
+pub end_is_no_work : {X : Type 0} → ◌≡◌ {A = Turned} comes.End comes.Working → X
 end_is_no_work e = absurd (cc)
 
 -- one that works on

@@ -1,4 +1,5 @@
 use Rattle.std.proofs.Common.{◌∙◌, ap, refl}
+use Rattle.rv_lang.specs.declared.reply.Reply.TheVariants.{End}
 use Rattle.rv_value.proofs.Lists.{on_err}
 use Rattle.rv_cursor.specs.Left.{left}
 use Rattle.rv_cursor.proofs.Holding.{end_takes, same_on, takes_then}
@@ -8,8 +9,8 @@ use Rattle.rv_cursor.proofs.fetching.fetch_step.Goals as goal
 pub give-requires : goal.give-requires
 give-requires g c = record { held = rw c.in-Ok-Held.field-0-is at c.in-Ok-Held.ensures.hand }
 
-pub returns-in-Ok-Held : goal.returns-in-Ok-Held
-returns-in-Ok-Held g c =
+pub returns-in_ok-replies-in-Ok-Held : goal.returns-in_ok-replies-in-Ok-Held
+returns-in_ok-replies-in-Ok-Held g c =
     let shown = g.R.Reader.shown c.args.reader.now in
     let stays = c.turn.ensures.stays in
     record {
@@ -51,7 +52,7 @@ returns-in-Ok-End g c =
       err = tt;
       given = ended.0;
       nearer = tt;
-      turn = rw c.in-Ok-End.field-0-is at (c.in-Ok-End.ensures.turn _);
+      turn = rw c.in-Ok-End.field-0-is at (c.in-Ok-End.ensures.turn (End, End));
       held = c.turn.ensures.held;
       moves = c.turn.ensures.moves;
       stays_rule = c.turn.ensures.stays_rule;
