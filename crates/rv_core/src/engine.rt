@@ -154,8 +154,8 @@ impl<S: Store + Reader<Ledger = Uncounted> + Drop> Engine<S> {
         Ok(reply)
     }
 
-    /// One turn's part of a call: as `call_text`, but that a FETCH makes one foreground step at most, with the background steps
-    /// behind it, and answers `Working` where that step only worked on.
+    /// One turn's part of a call: as `call_text`, but that a FETCH makes one foreground step at most, with the background
+    /// steps behind it, and answers `Working` where that step only worked on.
     #[tactic(auto, using(crate::proofs::Keeping::sees_same))]
     pub(crate) fn call_step(
         &mut self,
