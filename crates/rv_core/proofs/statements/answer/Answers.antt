@@ -39,19 +39,19 @@ pub returns-in-Ok-fetch_name-clause-ok : goal.returns-in-Ok-fetch_name-clause-ok
 returns-in-Ok-fetch_name-clause-ok g c =
     let asks = rw (c.catalog.ensures, c.at-statement.ensures.is, c.in_ok-place.ensures.is) at c.in-Ok.ensures.gives in
     let fetches = asks ∙ ap (λ (a : Resolved). Ok a) c.in-Ok-fetch_name.ensures.name in
-    IfOk-weaker c.fetch-in-Ok-fetch_name.result _ _ (λ replies k. executes (statement_of c.args.text.now) (Fetch c.in-Ok-fetch_name.name) _ _ _ replies fetches k) c.fetch-in-Ok-fetch_name.ensures.ok
+    IfOk-weaker c.fetch-replies.result _ _ (λ replies k. executes (statement_of c.args.text.now) (Fetch c.in-Ok-fetch_name.name) _ _ _ replies fetches k) c.fetch-replies.ensures.ok
 
 pub returns-in-Ok-fetch_name-clause-handles : goal.returns-in-Ok-fetch_name-clause-handles
 returns-in-Ok-fetch_name-clause-handles g c =
     let asks = rw (c.catalog.ensures, c.at-statement.ensures.is, c.in_ok-place.ensures.is) at c.in-Ok.ensures.gives in
     let fetches = asks ∙ ap (λ (a : Resolved). Ok a) c.in-Ok-fetch_name.ensures.name in
-    if_ok_two c.fetch-in-Ok-fetch_name.result _ _ _ (λ replies handles refused. handles_text _ (statement_of c.args.text.now) (Ok (Fetch c.in-Ok-fetch_name.name)) _ _ replies.0 _ _ fetches handles refused) c.fetch-in-Ok-fetch_name.ensures.moves (ok_each c.fetch-in-Ok-fetch_name.result _ c.fetch-in-Ok-fetch_name.ensures.refuses)
+    if_ok_two c.fetch-replies.result _ _ _ (λ replies handles refused. handles_text _ (statement_of c.args.text.now) (Ok (Fetch c.in-Ok-fetch_name.name)) _ _ replies.0 _ _ fetches handles refused) c.fetch-replies.ensures.moves (ok_each c.fetch-replies.result _ c.fetch-replies.ensures.refuses)
 
 pub returns-in-Ok-fetch_name-clause-lost : goal.returns-in-Ok-fetch_name-clause-lost
 returns-in-Ok-fetch_name-clause-lost g c =
     let asks = rw (c.catalog.ensures, c.at-statement.ensures.is, c.in_ok-place.ensures.is) at c.in-Ok.ensures.gives in
     let fetches = asks ∙ ap (λ (a : Resolved). Ok a) c.in-Ok-fetch_name.ensures.name in
-    on_err_weaker c.fetch-in-Ok-fetch_name.result (λ k. leaves_asked _ _ (Ok (Fetch c.in-Ok-fetch_name.name)) _ _ _ _ fetches k) c.fetch-in-Ok-fetch_name.ensures.lost
+    on_err_weaker c.fetch-replies.result (λ k. leaves_asked _ _ (Ok (Fetch c.in-Ok-fetch_name.name)) _ _ _ _ fetches k) c.fetch-replies.ensures.lost
 
 pub returns-in-Err-clause-ok : goal.returns-in-Err-clause-ok
 returns-in-Err-clause-ok g c =

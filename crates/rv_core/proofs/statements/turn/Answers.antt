@@ -24,4 +24,4 @@ returns-in-Err g c =
     }
 
 pub returns-in-Ok-clause-refuses : goal.returns-in-Ok-clause-refuses
-returns-in-Ok-clause-refuses g c refusal = rw c.in-Ok.ensures.name (c.fetch_step.ensures.refuses refusal)
+returns-in-Ok-clause-refuses g c refusal = rw c.in-Ok.ensures.name (c.fetch_step-part.ensures.refuses refusal)
