@@ -158,8 +158,8 @@ impl Jscan {
             leaves: 0,
             listed: false,
         };
-        drop(mem::replace(&mut self.plans, scans));
-        drop(self.list.take());
+        self.plans = scans;
+        self.list = None;
         self.lane.renew();
         self.table = table;
         self.snap = snap;
@@ -428,7 +428,7 @@ impl Jscan {
         ensures some { IsSome self.new.list }
     {
         let list = self.lane.take_list(self.alloc);
-        let _before = self.list.replace(list);
+        self.list = Some(list);
         self.ended += 1;
     }
 

@@ -112,8 +112,8 @@ impl Lane {
     pub fn renew(&mut self)
         ensures { self.new ≡ no_lane }
     {
-        drop(self.place.take());
-        drop(self.held.take());
+        self.place = None;
+        self.held = None;
         self.building.renew();
     }
 
@@ -171,7 +171,7 @@ impl Lane {
         requires fresh { Disjoint self.old.building held.entries }
         ensures { self.new ≡ record self.old { held = Some held } }
     {
-        let _before = self.held.replace(held);
+        self.held = Some(held);
     }
 
     /// Reads the awaited leaf and copies its piece. The leaf is held once the copy is made, so without one the piece is
@@ -318,7 +318,7 @@ impl Lane {
         ensures last { is_some next ≡ not result }
     {
         let last = next.is_none();
-        let _before = mem::replace(&mut self.place, next);
+        self.place = next;
         last
     }
 
@@ -379,8 +379,8 @@ impl Lane {
         ensures finished { result.finished ≡ true }
         ensures anew { self.new ≡ no_lane }
     {
-        drop(self.place.take());
-        drop(self.held.take());
+        self.place = None;
+        self.held = None;
         self.building.finish();
         mem::replace(&mut self.building, KeyList::new(alloc))
     }
