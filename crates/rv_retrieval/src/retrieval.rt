@@ -582,10 +582,10 @@ impl Retrieval {
         let ending = Final::new(self.alloc, query.table, query.snap);
         self.joint
             .renew(query.table, query.snap, scans, cursor, opening);
-        drop(mem::replace(&mut self.ending, ending));
-        drop(mem::replace(&mut self.query, query));
-        drop(mem::replace(&mut self.front, front));
-        drop(mem::replace(&mut self.delivered, delivered));
+        self.ending = ending;
+        self.query = query;
+        self.front = front;
+        self.delivered = delivered;
         self.strategy = strategy;
         self.borrowed = 0;
         self.guaranteed = guaranteed;
