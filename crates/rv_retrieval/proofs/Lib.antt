@@ -31,3 +31,4 @@ pub mod Waiting
 pub mod Remembering
 pub mod Worked
 pub mod Wholes
+pub mod InPlace

@@ -18,7 +18,7 @@ ghost use Rattle.rv_judge.specs.Counting.{reads};
 ghost use Rattle.rv_retrieval.specs.Short.{Settled};
 
 use crate::retrieval::Retrieval;
-use rv_jscan::{Given, Sieved, Taken, sieve};
+use rv_jscan::{Given, Sieved, Taken};
 use rv_judge::{Control, Event, Happening, Judge, Steps, Strategy, Verdict, course};
 use rv_reader::Reader;
 use rv_scan::Scanned;
@@ -287,7 +287,8 @@ impl Retrieval {
         self.take_joint(reader, steps)
     }
 
-    /// A background step: a piece taken, sieved and given.
+    /// A background step: the awaited piece is taken up where it stands, which comes to what a take, a sieve and a give of it
+    /// do, and the judge is obeyed.
     pub(crate) fn background_step<R: Reader>(
         &mut self,
         reader: &R,
@@ -309,12 +310,14 @@ impl Retrieval {
         ensures tries { Tries steps.old steps.new (effort self.old (R.shown reader.now)) (effort self.new (R.shown reader.now)) }
         ensures falls { is_background self.old.control ≡ true → Awaiting self.old → IfOk result (λ s. Falls s steps.old steps.new (effort self.old (R.shown reader.now)) (effort self.new (R.shown reader.now))) }
     {
-        match self.take_piece(reader, steps)? {
-            Taken::Piece(piece) => {
-                let _given = self.give_piece(sieve(piece), judge)?;
-                Ok(Scanned::Working)
-            }
-            Taken::Nothing => Ok(Scanned::Working),
+        if !self.is_background() {
+            return Ok(Scanned::Working);
         }
+        let before = self.ended();
+        if !self.step_joint(reader, steps)? {
+            return Ok(Scanned::Working);
+        }
+        self.accepted(before, judge);
+        Ok(Scanned::Working)
     }
 }

@@ -1,131 +1,244 @@
-use Rattle.std.proofs.Common.{◌∙◌, ap, refl, rules, subst, sym, lt_of_lt_of_le}
+use Rattle.std.proofs.Common.{◌≡◌, ◌∙◌, ap, arith, false, refl, rules, subst, sym, true}
+use Rattle.std.proofs.lemmas.Bool.Decides.{nat_tests}
 use Rattle.rv_value.proofs.Lists.{on_err}
-use Rattle.rv_retrieval.proofs.Stepped.{as_it_is, one_piece, taken_short}
-use Rattle.rv_retrieval.specs.Shape.{is_background}
-use Rattle.rv_retrieval.proofs.Efforts.{give_awaits, give_less}
-use Rattle.rv_retrieval.proofs.Openings.{gave_less, nothing_awaited, tries_to}
-use Rattle.rv_retrieval.specs.Stepping.{OnlyTakes}
-use Rattle.rv_retrieval.specs.Runs.{SameCourse}
-use Rattle.rv_retrieval.proofs.Waiting.{leaf_course, steady_by, steady_on, took_only}
+use Rattle.rv_value.proofs.Tests.{no_way}
+use Rattle.rv_retrieval.proofs.InPlace.{back_reads, idle_does, idle_steady, idle_tries, left_steady, left_tries, stepped_fits, stepped_rest, takes_leaf, worked_does, worked_near, worked_steady}
+use Rattle.rv_retrieval.proofs.Waiting.{leaf_course, took_only}
+use Rattle.rv_retrieval.specs.Shape.{Shape, is_background}
 use Rattle.rv_retrieval.proofs.retrieval.Retrieval.background_step.Goals as goal
 
-pub returns-in_ok-_given-in-Piece-clause-does : goal.returns-in_ok-_given-in-Piece-clause-does
-returns-in_ok-_given-in-Piece-clause-does g c =
+pub accepted-requires : goal.accepted-requires
+accepted-requires g c =
     let v = c.args.self.now in
-    let piece = rw c.in-Piece.is at c.in_ok-piece.ensures.taken in
-    (refl, as_it_is _ _ _ v c.give_piece.new.self (one_piece _ _ _ v c.take_piece.new.self c.give_piece.new.self c.in-Piece.piece c.sieve.result c.in_ok-_given-in-Piece._given c.take_piece.ensures.same c.take_piece.ensures.leaves piece c.sieve.ensures (taken_short c.take_piece.new.self.joint.held c.take_piece.new.self.joint (g.R.Reader.shown c.args.reader.now) c.in-Piece.piece.entries piece.awaits.entries c.take_piece.ensures.fits.joint.drawn) c.in_ok-_given-in-Piece.ensures.given c.in_ok-_given-in-Piece.ensures.obeys))
+    let back : is_background v.control ≡ true = grind (arith, nat_tests, c.is_background.ensures, c.if-not-is_background.false) in
+    record { back = ap (λ (x : Shape). is_background x.control) c.step_joint.ensures.same ∙ back }
 
-pub returns-in_ok-_given-in-Piece-clause-tries : goal.returns-in_ok-_given-in-Piece-clause-tries
-returns-in_ok-_given-in-Piece-clause-tries g c =
-    let shown = g.R.Reader.shown c.args.reader.now in
-    tries_to _ _ _ _ _ c.take_piece.ensures.tries (give_less c.give_piece.result _ _ _ c.sieve.result c.take_piece.new.self c.give_piece.new.self shown c.give_piece.ensures.given c.give_piece.ensures.obeys c.give_piece.ensures.err c.take_piece.ensures.fits)
+pub returns-then-not-is_background-clause-steady : goal.returns-then-not-is_background-clause-steady
+returns-then-not-is_background-clause-steady g c =
+    idle_steady c.args.self.now c.args.self.now refl
 
-pub returns-in_ok-_given-in-Piece-clause-falls : goal.returns-in_ok-_given-in-Piece-clause-falls
-returns-in_ok-_given-in-Piece-clause-falls g c back a =
-    let shown = g.R.Reader.shown c.args.reader.now in
-    let took = c.take_piece.ensures.tries.less in
-    let gave = gave_less _ _ _ c.in-Piece.piece c.sieve.result c.in_ok-_given-in-Piece._given c.take_piece.new.self c.give_piece.new.self shown (rw c.in-Piece.is at c.in_ok-piece.ensures.taken) c.sieve.ensures c.in_ok-_given-in-Piece.ensures.given c.in_ok-_given-in-Piece.ensures.obeys c.take_piece.ensures.fits in
-    lt_of_lt_of_le gave took
-
-pub returns-in_ok-_given-in-Piece-clause-steady : goal.returns-in_ok-_given-in-Piece-clause-steady
-returns-in_ok-_given-in-Piece-clause-steady g c =
+pub returns-then-not-is_background-clause-does : goal.returns-then-not-is_background-clause-does
+returns-then-not-is_background-clause-does g c =
     let v = c.args.self.now in
-    let mid = c.take_piece.new.self in
-    let new = c.give_piece.new.self in
-    steady_on v mid new (steady_by v mid c.take_piece.ensures.counts c.take_piece.ensures.query c.take_piece.ensures.awaiting c.take_piece.ensures.front) (steady_by mid new c.give_piece.ensures.counts c.give_piece.ensures.keeps.query (λ a. give_awaits c.give_piece.result _ _ _ c.sieve.result mid new c.give_piece.ensures.given c.give_piece.ensures.obeys c.give_piece.ensures.err a) c.give_piece.ensures.front)
+    let none : is_background v.control ≡ false = grind (arith, nat_tests, c.is_background.ensures, c.if-not-is_background.true) in
+    (refl, idle_does _ _ v v refl (rw none refl))
 
-pub returns-in-Nothing-clause-steady : goal.returns-in-Nothing-clause-steady
-returns-in-Nothing-clause-steady g c = steady_by c.args.self.now c.take_piece.new.self c.take_piece.ensures.counts c.take_piece.ensures.query c.take_piece.ensures.awaiting c.take_piece.ensures.front
-
-pub returns-in-Nothing-clause-does : goal.returns-in-Nothing-clause-does
-returns-in-Nothing-clause-does g c = (refl, as_it_is _ _ _ c.args.self.now c.take_piece.new.self (search rules))
-
-pub returns-in-Nothing-clause-falls : goal.returns-in-Nothing-clause-falls
-returns-in-Nothing-clause-falls g c back a = nothing_awaited c.take_piece.new.self (ap is_background c.take_piece.ensures.control ∙ back) (c.take_piece.ensures.awaiting a) (rw c.in-Nothing.is at c.in_ok-piece.ensures.taken)
-
-pub returns-in_err-piece-clause-still : goal.returns-in_err-piece-clause-still
-returns-in_err-piece-clause-still g c = on_err _ _ (took_only c.args.self.now c.take_piece.new.self c.take_piece.ensures.same c.take_piece.ensures.leaves)
-
-pub returns-in_err-_given-in-Piece-clause-still : goal.returns-in_err-_given-in-Piece-clause-still
-returns-in_err-_given-in-Piece-clause-still g c = on_err _ _ (subst (OnlyTakes c.args.self.now) (sym c.in_err-_given-in-Piece.ensures.err) (took_only c.args.self.now c.take_piece.new.self c.take_piece.ensures.same c.take_piece.ensures.leaves))
-
-pub returns-in_ok-_given-in-Piece-clause-fits : goal.returns-in_ok-_given-in-Piece-clause-fits
-returns-in_ok-_given-in-Piece-clause-fits g c = c.give_piece.ensures.keeps.fits (g.R.Reader.shown c.args.reader.now) c.take_piece.ensures.fits
-
-pub returns-in_err-_given-in-Piece-clause-fits : goal.returns-in_err-_given-in-Piece-clause-fits
-returns-in_err-_given-in-Piece-clause-fits g c = c.give_piece.ensures.keeps.fits (g.R.Reader.shown c.args.reader.now) c.take_piece.ensures.fits
-
-pub returns-in-Nothing-clause-fits : goal.returns-in-Nothing-clause-fits
-returns-in-Nothing-clause-fits g c = c.take_piece.ensures.fits
-
-pub returns-in_err-piece-clause-fits : goal.returns-in_err-piece-clause-fits
-returns-in_err-piece-clause-fits g c = c.take_piece.ensures.fits
-
-pub returns-in_ok-_given-in-Piece-clause-step : goal.returns-in_ok-_given-in-Piece-clause-step
-returns-in_ok-_given-in-Piece-clause-step g c = c.give_piece.ensures.keeps.rest (g.R.Reader.shown c.args.reader.now) c.take_piece.ensures.fits ∙ c.take_piece.ensures.rest
-
-pub returns-in-Nothing-clause-step : goal.returns-in-Nothing-clause-step
-returns-in-Nothing-clause-step g c = c.take_piece.ensures.rest
-
-pub returns-in_err-piece-clause-err : goal.returns-in_err-piece-clause-err
-returns-in_err-piece-clause-err g c = on_err _ _ c.take_piece.ensures.rest
-
-pub returns-in_err-_given-in-Piece-clause-err : goal.returns-in_err-_given-in-Piece-clause-err
-returns-in_err-_given-in-Piece-clause-err g c = on_err _ _ (c.give_piece.ensures.keeps.rest (g.R.Reader.shown c.args.reader.now) c.take_piece.ensures.fits ∙ c.take_piece.ensures.rest)
-
-pub returns-in_ok-_given-in-Piece-clause-reads : goal.returns-in_ok-_given-in-Piece-clause-reads
-returns-in_ok-_given-in-Piece-clause-reads g c = c.take_piece.ensures.reads
-
-pub returns-in-Nothing-clause-reads : goal.returns-in-Nothing-clause-reads
-returns-in-Nothing-clause-reads g c = c.take_piece.ensures.reads
-
-pub returns-in_err-piece-clause-reads : goal.returns-in_err-piece-clause-reads
-returns-in_err-piece-clause-reads g c = c.take_piece.ensures.reads
-
-pub returns-in_err-_given-in-Piece-clause-reads : goal.returns-in_err-_given-in-Piece-clause-reads
-returns-in_err-_given-in-Piece-clause-reads g c = c.take_piece.ensures.reads
-
-pub returns-in-Nothing-clause-tries : goal.returns-in-Nothing-clause-tries
-returns-in-Nothing-clause-tries g c = c.take_piece.ensures.tries
-
-pub returns-in_err-piece-clause-tries : goal.returns-in_err-piece-clause-tries
-returns-in_err-piece-clause-tries g c = c.take_piece.ensures.tries
-
-pub returns-in_err-piece-clause-steady : goal.returns-in_err-piece-clause-steady
-returns-in_err-piece-clause-steady g c = steady_by c.args.self.now c.take_piece.new.self c.take_piece.ensures.counts c.take_piece.ensures.query c.take_piece.ensures.awaiting c.take_piece.ensures.front
-
-pub returns-in_err-_given-in-Piece-clause-steady : goal.returns-in_err-_given-in-Piece-clause-steady
-returns-in_err-_given-in-Piece-clause-steady g c =
+pub returns-then-not-is_background-clause-reads : goal.returns-then-not-is_background-clause-reads
+returns-then-not-is_background-clause-reads g c =
     let v = c.args.self.now in
-    let mid = c.take_piece.new.self in
-    let new = c.give_piece.new.self in
-    steady_on v mid new (steady_by v mid c.take_piece.ensures.counts c.take_piece.ensures.query c.take_piece.ensures.awaiting c.take_piece.ensures.front) (steady_by mid new c.give_piece.ensures.counts c.give_piece.ensures.keeps.query (λ a. give_awaits c.give_piece.result _ _ _ c.sieve.result mid new c.give_piece.ensures.given c.give_piece.ensures.obeys c.give_piece.ensures.err a) c.give_piece.ensures.front)
+    let none : is_background v.control ≡ false = grind (arith, nat_tests, c.is_background.ensures, c.if-not-is_background.true) in
+    rw none refl
 
-pub returns-in_err-_given-in-Piece-clause-tries : goal.returns-in_err-_given-in-Piece-clause-tries
-returns-in_err-_given-in-Piece-clause-tries g c =
+pub returns-then-not-is_background-clause-tries : goal.returns-then-not-is_background-clause-tries
+returns-then-not-is_background-clause-tries g c =
+    record { once = omega arith; less = omega arith }
+
+pub returns-then-not-is_background-clause-falls : goal.returns-then-not-is_background-clause-falls
+returns-then-not-is_background-clause-falls g c back a =
+    let v = c.args.self.now in
+    let none : is_background v.control ≡ false = grind (arith, nat_tests, c.is_background.ensures, c.if-not-is_background.true) in
+    no_way (sym back ∙ none)
+
+pub returns-in_err-step_joint-clause-steady : goal.returns-in_err-step_joint-clause-steady
+returns-in_err-step_joint-clause-steady g c =
+    left_steady c.args.self.now c.step_joint.new.self c.step_joint.ensures.same c.in_err-step_joint.ensures.err
+
+pub returns-in_err-step_joint-clause-fits : goal.returns-in_err-step_joint-clause-fits
+returns-in_err-step_joint-clause-fits g c =
+    let v = c.args.self.now in
+    let w = c.step_joint.new.self in
     let shown = g.R.Reader.shown c.args.reader.now in
-    tries_to _ _ _ _ _ c.take_piece.ensures.tries (give_less c.give_piece.result _ _ _ c.sieve.result c.take_piece.new.self c.give_piece.new.self shown c.give_piece.ensures.given c.give_piece.ensures.obeys c.give_piece.ensures.err c.take_piece.ensures.fits)
+    let back : is_background v.control ≡ true = grind (arith, nat_tests, c.is_background.ensures, c.if-not-is_background.false) in
+    let e = c.step_joint.ensures.same in
+    let fits = stepped_fits c.step_joint.result v w shown back e c.step_joint.ensures.works c.step_joint.ensures.none c.step_joint.ensures.err c.step_joint.ensures.fits c.requires.fits in
+    fits
 
-pub returns-in_ok-_given-in-Piece-clause-stays : goal.returns-in_ok-_given-in-Piece-clause-stays
-returns-in_ok-_given-in-Piece-clause-stays g c = c.give_piece.ensures.stays
+pub returns-in_err-step_joint-clause-err : goal.returns-in_err-step_joint-clause-err
+returns-in_err-step_joint-clause-err g c =
+    let v = c.args.self.now in
+    let w = c.step_joint.new.self in
+    let shown = g.R.Reader.shown c.args.reader.now in
+    let back : is_background v.control ≡ true = grind (arith, nat_tests, c.is_background.ensures, c.if-not-is_background.false) in
+    let e = c.step_joint.ensures.same in
+    on_err _ _ (stepped_rest v w shown back e)
 
-pub returns-in_err-_given-in-Piece-clause-stays : goal.returns-in_err-_given-in-Piece-clause-stays
-returns-in_err-_given-in-Piece-clause-stays g c = c.give_piece.ensures.stays
+pub returns-in_err-step_joint-clause-still : goal.returns-in_err-step_joint-clause-still
+returns-in_err-step_joint-clause-still g c =
+    let v = c.args.self.now in
+    let w = c.step_joint.new.self in
+    let back : is_background v.control ≡ true = grind (arith, nat_tests, c.is_background.ensures, c.if-not-is_background.false) in
+    let e = c.step_joint.ensures.same in
+    let t = c.in_err-step_joint.ensures.err in
+    on_err _ _ (took_only v w e (takes_leaf v w back t))
 
-pub returns-in-Nothing-clause-stays : goal.returns-in-Nothing-clause-stays
-returns-in-Nothing-clause-stays g c = refl
+pub returns-in_err-step_joint-clause-course : goal.returns-in_err-step_joint-clause-course
+returns-in_err-step_joint-clause-course g c =
+    let v = c.args.self.now in
+    let w = c.step_joint.new.self in
+    let back : is_background v.control ≡ true = grind (arith, nat_tests, c.is_background.ensures, c.if-not-is_background.false) in
+    let e = c.step_joint.ensures.same in
+    let t = c.in_err-step_joint.ensures.err in
+    on_err _ _ (leaf_course v w e (takes_leaf v w back t))
 
-pub returns-in_err-piece-clause-stays : goal.returns-in_err-piece-clause-stays
-returns-in_err-piece-clause-stays g c = refl
+pub returns-in_err-step_joint-clause-quiet : goal.returns-in_err-step_joint-clause-quiet
+returns-in_err-step_joint-clause-quiet g c =
+    on_err _ _ refl
 
-pub returns-in_err-piece-clause-quiet : goal.returns-in_err-piece-clause-quiet
-returns-in_err-piece-clause-quiet g c = on_err _ _ refl
+pub returns-in_err-step_joint-clause-stays : goal.returns-in_err-step_joint-clause-stays
+returns-in_err-step_joint-clause-stays g c =
+    refl
 
-pub returns-in_err-_given-in-Piece-clause-quiet : goal.returns-in_err-_given-in-Piece-clause-quiet
-returns-in_err-_given-in-Piece-clause-quiet g c = on_err _ _ c.in_err-_given-in-Piece.ensures.quiet
+pub returns-in_err-step_joint-clause-reads : goal.returns-in_err-step_joint-clause-reads
+returns-in_err-step_joint-clause-reads g c =
+    let v = c.args.self.now in
+    let back : is_background v.control ≡ true = grind (arith, nat_tests, c.is_background.ensures, c.if-not-is_background.false) in
+    back_reads v c.args.steps.now c.step_joint.new.steps back c.step_joint.ensures.reads
 
-pub returns-in_err-piece-clause-course : goal.returns-in_err-piece-clause-course
-returns-in_err-piece-clause-course g c = on_err _ _ (leaf_course c.args.self.now c.take_piece.new.self c.take_piece.ensures.same c.take_piece.ensures.leaves)
+pub returns-in_err-step_joint-clause-tries : goal.returns-in_err-step_joint-clause-tries
+returns-in_err-step_joint-clause-tries g c =
+    let v = c.args.self.now in
+    let w = c.step_joint.new.self in
+    let shown = g.R.Reader.shown c.args.reader.now in
+    let e = c.step_joint.ensures.same in
+    let t = c.in_err-step_joint.ensures.err in
+    left_tries v w shown c.args.steps.now c.step_joint.new.steps e t c.step_joint.ensures.reads
 
-pub returns-in_err-_given-in-Piece-clause-course : goal.returns-in_err-_given-in-Piece-clause-course
-returns-in_err-_given-in-Piece-clause-course g c = on_err _ _ (subst (SameCourse c.args.self.now) (sym c.in_err-_given-in-Piece.ensures.err) (leaf_course c.args.self.now c.take_piece.new.self c.take_piece.ensures.same c.take_piece.ensures.leaves))
+pub returns-clause-steady : goal.returns-clause-steady
+returns-clause-steady g c =
+    let v = c.args.self.now in
+    let w = c.step_joint.new.self in
+    let shown = g.R.Reader.shown c.args.reader.now in
+    let back : is_background v.control ≡ true = grind (arith, nat_tests, c.is_background.ensures, c.if-not-is_background.false) in
+    let e = c.step_joint.ensures.same in
+    let k = c.in_ok-step_joint.ensures.works c.if-not-branch.false in
+    let o = rw c.ended.ensures at c.accepted.ensures.obeys in
+    worked_steady _ _ _ v w c.accepted.new.self shown back e k o c.accepted.ensures.counts c.accepted.ensures.keeps.query c.accepted.ensures.front
+
+pub returns-clause-fits : goal.returns-clause-fits
+returns-clause-fits g c =
+    let v = c.args.self.now in
+    let w = c.step_joint.new.self in
+    let shown = g.R.Reader.shown c.args.reader.now in
+    let back : is_background v.control ≡ true = grind (arith, nat_tests, c.is_background.ensures, c.if-not-is_background.false) in
+    let e = c.step_joint.ensures.same in
+    let fits = stepped_fits c.step_joint.result v w shown back e c.step_joint.ensures.works c.step_joint.ensures.none c.step_joint.ensures.err c.step_joint.ensures.fits c.requires.fits in
+    c.accepted.ensures.keeps.fits shown fits
+
+pub returns-clause-step : goal.returns-clause-step
+returns-clause-step g c =
+    let v = c.args.self.now in
+    let w = c.step_joint.new.self in
+    let shown = g.R.Reader.shown c.args.reader.now in
+    let back : is_background v.control ≡ true = grind (arith, nat_tests, c.is_background.ensures, c.if-not-is_background.false) in
+    let e = c.step_joint.ensures.same in
+    let fits = stepped_fits c.step_joint.result v w shown back e c.step_joint.ensures.works c.step_joint.ensures.none c.step_joint.ensures.err c.step_joint.ensures.fits c.requires.fits in
+    c.accepted.ensures.keeps.rest shown fits ∙ stepped_rest v w shown back e
+
+pub returns-clause-does : goal.returns-clause-does
+returns-clause-does g c =
+    let v = c.args.self.now in
+    let w = c.step_joint.new.self in
+    let shown = g.R.Reader.shown c.args.reader.now in
+    let back : is_background v.control ≡ true = grind (arith, nat_tests, c.is_background.ensures, c.if-not-is_background.false) in
+    let e = c.step_joint.ensures.same in
+    let k = c.in_ok-step_joint.ensures.works c.if-not-branch.false in
+    let o = rw c.ended.ensures at c.accepted.ensures.obeys in
+    (refl, worked_does _ _ _ v w c.accepted.new.self shown back e k o)
+
+pub returns-clause-stays : goal.returns-clause-stays
+returns-clause-stays g c =
+    c.accepted.ensures.stays
+
+pub returns-clause-reads : goal.returns-clause-reads
+returns-clause-reads g c =
+    let v = c.args.self.now in
+    let back : is_background v.control ≡ true = grind (arith, nat_tests, c.is_background.ensures, c.if-not-is_background.false) in
+    back_reads v c.args.steps.now c.step_joint.new.steps back c.step_joint.ensures.reads
+
+pub returns-clause-tries : goal.returns-clause-tries
+returns-clause-tries g c =
+    let v = c.args.self.now in
+    let w = c.step_joint.new.self in
+    let shown = g.R.Reader.shown c.args.reader.now in
+    let back : is_background v.control ≡ true = grind (arith, nat_tests, c.is_background.ensures, c.if-not-is_background.false) in
+    let e = c.step_joint.ensures.same in
+    let k = c.in_ok-step_joint.ensures.works c.if-not-branch.false in
+    let o = rw c.ended.ensures at c.accepted.ensures.obeys in
+    (worked_near _ _ _ v w c.accepted.new.self shown c.args.steps.now c.step_joint.new.steps back e k o c.step_joint.ensures.reads c.requires.fits).1
+
+pub returns-clause-falls : goal.returns-clause-falls
+returns-clause-falls g c back a =
+    let v = c.args.self.now in
+    let w = c.step_joint.new.self in
+    let shown = g.R.Reader.shown c.args.reader.now in
+    let on : is_background v.control ≡ true = grind (arith, nat_tests, c.is_background.ensures, c.if-not-is_background.false) in
+    let e = c.step_joint.ensures.same in
+    let k = c.in_ok-step_joint.ensures.works c.if-not-branch.false in
+    let o = rw c.ended.ensures at c.accepted.ensures.obeys in
+    (worked_near _ _ _ v w c.accepted.new.self shown c.args.steps.now c.step_joint.new.steps on e k o c.step_joint.ensures.reads c.requires.fits).0
+
+pub returns-then-not-branch-clause-steady : goal.returns-then-not-branch-clause-steady
+returns-then-not-branch-clause-steady g c =
+    let v = c.args.self.now in
+    let w = c.step_joint.new.self in
+    let e = c.step_joint.ensures.same in
+    let idle = c.in_ok-step_joint.ensures.none c.if-not-branch.true in
+    let same = e ∙ ap (λ j. record v { joint = j }) idle.1 in
+    idle_steady v w same
+
+pub returns-then-not-branch-clause-fits : goal.returns-then-not-branch-clause-fits
+returns-then-not-branch-clause-fits g c =
+    let v = c.args.self.now in
+    let w = c.step_joint.new.self in
+    let shown = g.R.Reader.shown c.args.reader.now in
+    let back : is_background v.control ≡ true = grind (arith, nat_tests, c.is_background.ensures, c.if-not-is_background.false) in
+    let e = c.step_joint.ensures.same in
+    let fits = stepped_fits c.step_joint.result v w shown back e c.step_joint.ensures.works c.step_joint.ensures.none c.step_joint.ensures.err c.step_joint.ensures.fits c.requires.fits in
+    fits
+
+pub returns-then-not-branch-clause-step : goal.returns-then-not-branch-clause-step
+returns-then-not-branch-clause-step g c =
+    let v = c.args.self.now in
+    let w = c.step_joint.new.self in
+    let shown = g.R.Reader.shown c.args.reader.now in
+    let back : is_background v.control ≡ true = grind (arith, nat_tests, c.is_background.ensures, c.if-not-is_background.false) in
+    let e = c.step_joint.ensures.same in
+    stepped_rest v w shown back e
+
+pub returns-then-not-branch-clause-does : goal.returns-then-not-branch-clause-does
+returns-then-not-branch-clause-does g c =
+    let v = c.args.self.now in
+    let w = c.step_joint.new.self in
+    let back : is_background v.control ≡ true = grind (arith, nat_tests, c.is_background.ensures, c.if-not-is_background.false) in
+    let e = c.step_joint.ensures.same in
+    let idle = c.in_ok-step_joint.ensures.none c.if-not-branch.true in
+    let same = e ∙ ap (λ j. record v { joint = j }) idle.1 in
+    (refl, idle_does _ _ v w same (rw (back, idle.0) refl))
+
+pub returns-then-not-branch-clause-stays : goal.returns-then-not-branch-clause-stays
+returns-then-not-branch-clause-stays g c =
+    refl
+
+pub returns-then-not-branch-clause-reads : goal.returns-then-not-branch-clause-reads
+returns-then-not-branch-clause-reads g c =
+    let v = c.args.self.now in
+    let back : is_background v.control ≡ true = grind (arith, nat_tests, c.is_background.ensures, c.if-not-is_background.false) in
+    back_reads v c.args.steps.now c.step_joint.new.steps back c.step_joint.ensures.reads
+
+pub returns-then-not-branch-clause-tries : goal.returns-then-not-branch-clause-tries
+returns-then-not-branch-clause-tries g c =
+    let v = c.args.self.now in
+    let w = c.step_joint.new.self in
+    let shown = g.R.Reader.shown c.args.reader.now in
+    let e = c.step_joint.ensures.same in
+    let idle = c.in_ok-step_joint.ensures.none c.if-not-branch.true in
+    let same = e ∙ ap (λ j. record v { joint = j }) idle.1 in
+    idle_tries v w shown c.args.steps.now c.step_joint.new.steps same idle.0 c.step_joint.ensures.reads
+
+pub returns-then-not-branch-clause-falls : goal.returns-then-not-branch-clause-falls
+returns-then-not-branch-clause-falls g c back a =
+    let v = c.args.self.now in
+    let e = c.step_joint.ensures.same in
+    let idle = c.in_ok-step_joint.ensures.none c.if-not-branch.true in
+    let same = e ∙ ap (λ j. record v { joint = j }) idle.1 in
+    no_way (sym (a.way back) ∙ idle.0)
