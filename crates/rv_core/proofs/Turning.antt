@@ -10,8 +10,8 @@ use Rattle.rv_catalog.specs.Schema.{Schema}
 use Rattle.rv_reader.specs.Shown.{Shown}
 use Rattle.rv_model.specs.declared.transactions.Transactions.{Transactions}
 use Rattle.rv_model.specs.Database.{cursor_named}
-use Rattle.rv_join.specs.declared.plan.PlanStep.{PlanStep}
-use Rattle.rv_join.specs.declared.plan.PlanStep.TheVariants.{Row, End, Working}
+use Rattle.rv_reader.specs.declared.step.Step.{Step}
+use Rattle.rv_reader.specs.declared.step.Step.TheVariants.{Row, Working, End}
 use Rattle.rv_cursor.specs.declared.cursor.Open.{Open}
 use Rattle.rv_cursor.specs.Left.{SameCursor, TakesOffer, TakesPart, left, seen_by}
 use Rattle.rv_cursor.specs.Moves.{FetchMoves, RepliesTo, Ruled, TurnMoves, ruled}
@@ -32,7 +32,7 @@ pub turn_fetches : (hand : Option Offer) (replies : Reply × Reply) (most : ℕ)
 turn_fetches hand replies most would shown old new t = record { turns = zero; mid = old; made = refl; replies = replies; last = t }
 
 -- which replies it makes is not said here
-replied : (step : PlanStep) (r s : Reply × Reply) → RepliesTo step (Some r) → RepliesTo step (Some s)
+replied : (step : Step Offer) (r s : Reply × Reply) → RepliesTo step (Some r) → RepliesTo step (Some s)
 replied (Row o) r s h = refl
 replied End r s h = refl
 replied Working r s h = absurd (cc)

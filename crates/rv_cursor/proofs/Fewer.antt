@@ -11,8 +11,8 @@ use Rattle.rv_access.specs.Accesses.{Settled, fetches_left}
 use Rattle.rv_join.specs.Alone.{FewFetches, IsAlone, plan_fetches}
 use Rattle.rv_join.specs.declared.places.Asked.{Asked}
 use Rattle.rv_join.specs.Plans.{Planned}
-use Rattle.rv_join.specs.declared.plan.PlanStep.{PlanStep}
-use Rattle.rv_join.specs.declared.plan.PlanStep.TheVariants.{Row, End, Working}
+use Rattle.rv_reader.specs.declared.step.Step.{Step}
+use Rattle.rv_reader.specs.declared.step.Step.TheVariants.{Row, Working, End}
 use Rattle.rv_cursor.specs.Fetches.{LosesNone, lost_in, lost_of}
 use Rattle.rv_cursor.specs.Moves.{Beside, BesideBy, EndsBeside, FetchMoves, GivesBack, LacksBeside, Move, MovesBy, MovesByAll, Ruled, StepsBack, StepsBacks, StepsBeside, TakesOut, Turn, TurnMoves, TurnsOn}
 use Rattle.rv_cursor.specs.Moves.Move.{Front, Lost, Take, Give}
@@ -124,12 +124,12 @@ ends_lose done most would shown last new (inr lacks) = record { moves = Take ∷
 all_beside : (most : ℕ) (would : ℕ → Facts → Ruling) (shown : Shown) (old new : Ruled) → Beside most would shown old new → LosesNone would shown old new
 all_beside most would shown old new beside = lose_on would shown old beside.last new (besides_lose beside.done would shown old beside.last beside.steps) (ends_lose beside.done most would shown beside.last new beside.ends)
 
-beside_loses : (step : PlanStep) (most : ℕ) (would : ℕ → Facts → Ruling) (shown : Shown) (old new : Ruled) → BesideBy step most would shown old new → LosesNone would shown old new
+beside_loses : (step : Step Offer) (most : ℕ) (would : ℕ → Facts → Ruling) (shown : Shown) (old new : Ruled) → BesideBy step most would shown old new → LosesNone would shown old new
 beside_loses (Row o) most would shown old new beside = all_beside most would shown old new beside
 beside_loses End most would shown old new same = lose_nothing would shown old new same
 beside_loses Working most would shown old new beside = all_beside most would shown old new beside
 
-pub turn_loses : (step : PlanStep) (most : ℕ) (would : ℕ → Facts → Ruling) (shown : Shown) (old new : Ruled) → Turn step most would shown old new → LosesNone would shown old new
+pub turn_loses : (step : Step Offer) (most : ℕ) (would : ℕ → Facts → Ruling) (shown : Shown) (old new : Ruled) → Turn step most would shown old new → LosesNone would shown old new
 turn_loses step most would shown old new turn = lose_on would shown old turn.stepped new (record { moves = Front ∷ []; made = (old, refl, (step, turn.front)); none = refl }) (beside_loses step most would shown turn.stepped new turn.beside)
 
 turns_lose : (n most : ℕ) (would : ℕ → Facts → Ruling) (shown : Shown) (old new : Ruled) → TurnsOn n most would shown old new → LosesNone would shown old new

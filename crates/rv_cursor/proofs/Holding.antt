@@ -11,7 +11,7 @@ use Rattle.rv_model.specs.Offers.{offers_in_order}
 use Rattle.rv_model.proofs.Sorting.{sorted_moved}
 use Rattle.rv_join.specs.Order.{IsLeastOf}
 use Rattle.rv_join.specs.Plans.{PlanFits, PlanMoves, PlanStays, Planned, plan_rest}
-use Rattle.rv_join.specs.declared.plan.PlanStep.TheVariants.{Row as PlanRow, Working}
+use Rattle.rv_reader.specs.declared.step.Step.TheVariants.{Row as PlanRow, Working}
 use Rattle.rv_cursor.specs.declared.cursor.Open.{Open}
 use Rattle.rv_cursor.specs.Left.{CursorFits, SameCursor, Stays, TakesOffer, in_hand, left, seen_at, seen_by, to_come, to_do, work}
 use Rattle.rv_cursor.proofs.Giving.{gives_least}

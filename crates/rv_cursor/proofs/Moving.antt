@@ -21,10 +21,9 @@ use Rattle.rv_join.specs.Alone.{FewFetches, IsAlone, PlanAsks, PlanSpends, Spend
 use Rattle.rv_join.specs.Levels.{first_of}
 use Rattle.rv_join.specs.Pieces.{GivesPiece, counted_up, plan_awaited, plan_pieces, stack_builds, waited, waiting}
 use Rattle.rv_join.specs.Plans.{PlanFits, PlanKept, PlanMoves, PlanStays, Planned, WorkTo, plan_trace, plan_work}
-use Rattle.rv_join.specs.declared.plan.PlanStep.{PlanStep}
-use Rattle.rv_join.specs.declared.plan.PlanStep.TheVariants.{Row, End, Working}
-use Rattle.rv_cursor.specs.declared.fetching.Turned.{Turned}
-use Rattle.rv_cursor.specs.declared.fetching.Turned.TheVariants as comes
+use Rattle.rv_reader.specs.declared.step.Step.{Step}
+use Rattle.rv_reader.specs.declared.step.Step.TheVariants.{Row, Working, End}
+use Rattle.rv_reader.specs.declared.step.Step.TheVariants as comes
 use Rattle.rv_cursor.specs.Moves.{Beside, BesideBy, FetchMoves, GivesBack, LacksMemory, Move, Moves, MovesBy, MovesByAll, RepliesTo, Ruled, StepsBack, StepsBacks, StepsBeside, StepsFront, TakesOut, Turn, TurnMoves, TurnsOn, WorksPiece}
 use Rattle.rv_cursor.specs.Moves.Move.{Front, Take, Give}
 
@@ -56,18 +55,18 @@ moves_on v w s t a b c rule seen first then = by (turned (λ u x. Moves u x b c)
 
 -- A foreground step.
 
-work_le : (m : PlanStep) (n k : ℕ) → WorkTo m n k → k ≤ n
+work_le : (m : Step Offer) (n k : ℕ) → WorkTo m n k → k ≤ n
 work_le (Row o) n k less = less
 work_le End n k less = less
 work_le Working n k less = omega (arith, less)
 
-pub front_ok : (m : PlanStep) (would : ℕ → Facts → Ruling) (shown : Shown) (state after : ℕ) (c d : Counts) (old new : Planned) → CountsRise (plan_trace old) (plan_trace new) c d → PlanAsks would state after shown c d old new → (IsAlone old → StepsOnce would state after shown c d old.stack.at new.stack.at) → PlanMoves shown m old new → (IsAlone old → PlanSpends m c d (plan_effort shown old) (plan_effort shown new)) → (IsAlone old → FewFetches 0 shown old new) → PlanFits shown new → StepsFront (Some m) would shown (record { plan = old; judge = state }) (record { plan = new; judge = after })
+pub front_ok : (m : Step Offer) (would : ℕ → Facts → Ruling) (shown : Shown) (state after : ℕ) (c d : Counts) (old new : Planned) → CountsRise (plan_trace old) (plan_trace new) c d → PlanAsks would state after shown c d old new → (IsAlone old → StepsOnce would state after shown c d old.stack.at new.stack.at) → PlanMoves shown m old new → (IsAlone old → PlanSpends m c d (plan_effort shown old) (plan_effort shown new)) → (IsAlone old → FewFetches 0 shown old new) → PlanFits shown new → StepsFront (Some m) would shown (record { plan = old; judge = state }) (record { plan = new; judge = after })
 front_ok m would shown state after c d old new counts asks once moves spends few fits = record { asked = moves.asked; before = c; after = d; counts = counts; asks = asks; once = once; work = work_le m (plan_work shown old) (plan_work shown new) moves.work; answers = moves; spends = spends; few = few; fits = fits }
 
 pub front_err : (would : ℕ → Facts → Ruling) (shown : Shown) (state after : ℕ) (c d : Counts) (old new : Planned) → CountsRise (plan_trace old) (plan_trace new) c d → PlanAsks would state after shown c d old new → (IsAlone old → StepsOnce would state after shown c d old.stack.at new.stack.at) → PlanKept shown old new → (IsAlone old → FewFetches 1 shown old new) → PlanFits shown new → StepsFront None would shown (record { plan = old; judge = state }) (record { plan = new; judge = after })
 front_err would shown state after c d old new counts asks once kept few fits = record { asked = kept.asked; before = c; after = d; counts = counts; asks = asks; once = once; work = kept.work; answers = tt; spends = λ alone. tt; few = few; fits = fits }
 
-pub front_moves : (step : PlanStep) (would : ℕ → Facts → Ruling) (shown : Shown) (old new : Ruled) → StepsFront (Some step) would shown old new → Moves would shown old new
+pub front_moves : (step : Step Offer) (would : ℕ → Facts → Ruling) (shown : Shown) (old new : Ruled) → StepsFront (Some step) would shown old new → Moves would shown old new
 front_moves step would shown old new front = moves_by Front would shown old new (step, front)
 
 -- the row in hand is given, which leaves the plan
@@ -153,7 +152,7 @@ beside_lacks most done w s t a b c seen less first builds lacks = record { done 
 -- Turns of a fetch.
 
 -- a foreground step that brought no end, and the background steps beside it
-pub turn_made : (step : PlanStep) (most : ℕ) (v w : ℕ → Facts → Ruling) (s t : Shown) (a b c : Ruled) → v ≡ w → s ≡ t → StepsFront (Some step) w t a b → (Beside most w t b c → BesideBy step most w t b c) → Beside most v s b c → Turn step most w t a c
+pub turn_made : (step : Step Offer) (most : ℕ) (v w : ℕ → Facts → Ruling) (s t : Shown) (a b c : Ruled) → v ≡ w → s ≡ t → StepsFront (Some step) w t a b → (Beside most w t b c → BesideBy step most w t b c) → Beside most v s b c → Turn step most w t a c
 turn_made step most v w s t a b c rule seen front is beside = record { stepped = b; front = front; beside = is (turned (λ u x. Beside most u x b c) v w s t rule seen beside) }
 
 -- one that brought a row
@@ -169,10 +168,10 @@ pub none_told : Reply × Reply
 none_told = (TheEnd, TheEnd)
 
 -- a turn behind which replies are made works on no more
-pub held_is_no_work : {X : Type 0} → ◌≡◌ {A = Turned} comes.Held comes.Working → X
+pub held_is_no_work : {X : Type 0} → ◌≡◌ {A = Step (Unit {0})} (comes.Row tt) comes.Working → X
 held_is_no_work e = absurd (cc)
 
-pub end_is_no_work : {X : Type 0} → ◌≡◌ {A = Turned} comes.End comes.Working → X
+pub end_is_no_work : {X : Type 0} → ◌≡◌ {A = Step (Unit {0})} comes.End comes.Working → X
 end_is_no_work e = absurd (cc)
 
 -- one that works on
@@ -193,7 +192,7 @@ pub fetch_on : (hand : Option Offer) (most n : ℕ) (v w : ℕ → Facts → Rul
 fetch_on (Some o) most n v w s t a b c rule seen made turn = absurd (cc)
 fetch_on None most n v w s t a b c rule seen made turn = by turn.0 turn.1 turn.2
   where
-    by : (m : PlanStep) → RepliesTo m None → Turn m most v s b c → TurnsOn (suc n) most w t a c
+    by : (m : Step Offer) → RepliesTo m None → Turn m most v s b c → TurnsOn (suc n) most w t a c
     by (Row o) replies x = absurd (cc)
     by End replies x = absurd (cc)
     by Working replies x = (b, made, turned (λ u y. Turn Working most u y b c) v w s t rule seen x)

@@ -7,7 +7,7 @@ use Rattle.rv_reader.specs.Shown.{Shown}
 use Rattle.rv_join.specs.Alone.{FewFetches, IsAlone}
 use Rattle.rv_cursor.specs.Moves.{FetchMoves, Move, MovesByAll, Ruled, StepsBacks, Turn}
 use Rattle.rv_cursor.specs.Moves.Move.{Front, Lost, Take, Give}
-use Rattle.rv_join.specs.declared.plan.PlanStep.{PlanStep}
+use Rattle.rv_reader.specs.declared.step.Step.{Step}
 
 -- the foreground steps for which no memory was found
 abbrev pub lost_of : Move → ℕ
@@ -41,7 +41,7 @@ FetchLosesNone =
 
 abbrev pub TurnLosesNone : Type 0
 TurnLosesNone =
-    (step : PlanStep) (most : ℕ) (would : ℕ → Facts → Ruling) (shown : Shown) (old new : Ruled)
+    (step : Step Offer) (most : ℕ) (would : ℕ → Facts → Ruling) (shown : Shown) (old new : Ruled)
     → Turn step most would shown old new → LosesNone would shown old new
 
 abbrev pub StepLosesNone : Type 0

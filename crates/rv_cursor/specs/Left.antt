@@ -11,8 +11,8 @@ use Rattle.rv_view.specs.Sights.{LaysSome, laid_over}
 use Rattle.rv_join.specs.Order.{IsLeastOf}
 use Rattle.rv_join.specs.Plans.{PlanFits, plan_rest, plan_work}
 use Rattle.rv_cursor.specs.declared.cursor.Open.{Open}
-use Rattle.rv_cursor.specs.declared.fetching.Turned.{Turned}
-use Rattle.rv_cursor.specs.declared.fetching.Turned.TheVariants as turned
+use Rattle.rv_reader.specs.declared.step.Step.{Step}
+use Rattle.rv_reader.specs.declared.step.Step.TheVariants as turned
 
 -- the reader at one snapshot alone, with what a transaction froze laid over it where it had changes
 abbrev pub seen_at : Shown → ℕ → Option Frozen → Shown
@@ -79,7 +79,7 @@ TakesPart old (Some replies) new = TakesOffer old replies new
 TakesPart old None new = new ≡ old
 
 -- what a turn of a FETCH leaves in hand: a row, or none; at the end nothing is left either
-abbrev pub LeavesHand : Turned → List Offer → Option Offer → Type 0
-LeavesHand turned.Held offers hand = IsSome hand
+abbrev pub LeavesHand : Step (Unit {0}) → List Offer → Option Offer → Type 0
+LeavesHand (turned.Row held) offers hand = IsSome hand
 LeavesHand turned.End offers hand = (hand ≡ None) × (offers ≡ [])
 LeavesHand turned.Working offers hand = hand ≡ None

@@ -18,11 +18,10 @@ use Rattle.rv_join.specs.Alone.{FewFetches, IsAlone, PlanAsks, PlanSpends, Spend
 use Rattle.rv_join.specs.Levels.{first_of}
 use Rattle.rv_join.specs.Pieces.{plan_awaited, plan_pieces, stack_builds, waited, waiting}
 use Rattle.rv_join.specs.Plans.{PlanFits, PlanMoves, PlanStays, Planned, plan_trace, plan_work}
-use Rattle.rv_join.specs.declared.plan.PlanStep.{PlanStep}
-use Rattle.rv_join.specs.declared.plan.PlanStep.TheVariants.{Row, End, Working}
+use Rattle.rv_reader.specs.declared.step.Step.{Step}
+use Rattle.rv_reader.specs.declared.step.Step.TheVariants.{Row, Working, End}
 use Rattle.rv_cursor.specs.declared.cursor.Open.{Open}
-use Rattle.rv_cursor.specs.declared.fetching.Turned.{Turned}
-use Rattle.rv_cursor.specs.declared.fetching.Turned.TheVariants as turned
+use Rattle.rv_reader.specs.declared.step.Step.TheVariants as turned
 
 -- a plan, and where the judge stands that rules on its scans
 pub record Ruled : Type 0 where
@@ -34,7 +33,7 @@ abbrev pub ruled : Open → ℕ → Ruled
 ruled c state = record { plan = c.plan; judge = state }
 
 -- where no memory is found for a foreground step, one record may be read in vain
-abbrev pub wanting : Option PlanStep → ℕ
+abbrev pub wanting : Option (Step Offer) → ℕ
 wanting (Some step) = 0
 wanting None = 1
 
@@ -42,7 +41,7 @@ wanting None = 1
 -- retrieval, which asks the judge as often as that step does, and obeys it. Over one FROM item it lowers the effort
 -- by its reads, and Working by at least one; and where the background is over, the records fetched and those left
 -- come to no more than before.
-pub record StepsFront (answer : Option PlanStep) (would : ℕ → Facts → Ruling) (shown : Shown)
+pub record StepsFront (answer : Option (Step Offer)) (would : ℕ → Facts → Ruling) (shown : Shown)
     (old new : Ruled) : Type 0 where
   pub asked : new.plan.asked ≡ old.plan.asked
   pub before : Counts
@@ -95,7 +94,7 @@ pub data Move : Type 0 where
   Give : Move
 
 abbrev pub MovesBy : Move → (ℕ → Facts → Ruling) → Shown → Ruled → Ruled → Type 0
-MovesBy Front would shown old new = (step : PlanStep) × StepsFront (Some step) would shown old new
+MovesBy Front would shown old new = (step : Step Offer) × StepsFront (Some step) would shown old new
 MovesBy Lost would shown old new = StepsFront None would shown old new
 MovesBy Take would shown old new = TakesOut shown old new
 MovesBy Give would shown old new = GivesBack would shown old new
@@ -166,27 +165,27 @@ pub record Beside (most : ℕ) (would : ℕ → Facts → Ruling) (shown : Shown
 -- A TURN OF A FETCH, which is what it does before another call may come between.
 
 -- beside a step that finds the end nothing is done
-abbrev pub BesideBy : PlanStep → ℕ → (ℕ → Facts → Ruling) → Shown → Ruled → Ruled → Type 0
+abbrev pub BesideBy : Step Offer → ℕ → (ℕ → Facts → Ruling) → Shown → Ruled → Ruled → Type 0
 BesideBy (Row o) most would shown old new = Beside most would shown old new
 BesideBy End most would shown old new = new ≡ old
 BesideBy Working most would shown old new = Beside most would shown old new
 
 -- a foreground step that answers this, and the background steps beside it
-pub record Turn (step : PlanStep) (most : ℕ) (would : ℕ → Facts → Ruling) (shown : Shown)
+pub record Turn (step : Step Offer) (most : ℕ) (would : ℕ → Facts → Ruling) (shown : Shown)
     (old new : Ruled) : Type 0 where
   pub stepped : Ruled
   pub front : StepsFront (Some step) would shown old stepped
   pub beside : BesideBy step most would shown stepped new
 
 -- a reply is made where a row was brought or the end was found, and none exactly where the step answered Working
-abbrev pub RepliesTo : PlanStep → Option (Reply × Reply) → Type 0
+abbrev pub RepliesTo : Step Offer → Option (Reply × Reply) → Type 0
 RepliesTo (Row o) replies = IsSome replies
 RepliesTo End replies = IsSome replies
 RepliesTo Working replies = replies ≡ None
 
 -- the replies that are made behind a turn: these, or none yet where the plan works on
-abbrev pub part_of : Turned → Reply × Reply → Option (Reply × Reply)
-part_of turned.Held replies = Some replies
+abbrev pub part_of : Step (Unit {0}) → Reply × Reply → Option (Reply × Reply)
+part_of (turned.Row held) replies = Some replies
 part_of turned.End replies = Some replies
 part_of turned.Working replies = None
 
@@ -194,7 +193,7 @@ part_of turned.Working replies = None
 abbrev pub TurnMoves : Option Offer → Option (Reply × Reply) → ℕ → (ℕ → Facts → Ruling) → Shown → Ruled → Ruled → Type 0
 TurnMoves (Some o) replies most would shown old new = IsSome replies × (new ≡ old)
 TurnMoves None replies most would shown old new =
-    (step : PlanStep) × RepliesTo step replies × Turn step most would shown old new
+    (step : Step Offer) × RepliesTo step replies × Turn step most would shown old new
 
 -- A FETCH IS TURNS: so many that work on, and a last one, which makes the replies.
 

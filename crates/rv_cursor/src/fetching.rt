@@ -6,29 +6,17 @@ ghost use Rattle.rv_reader.specs.Shown.{Shown};
 ghost use Rattle.rv_join.specs.Pieces.{counted_up, plan_awaited, plan_pieces};
 ghost use Rattle.rv_cursor.specs.Left.{CursorFits, LeavesHand, SameCursor, Stays, TakesOffer, TakesPart, left, seen_by, to_do, work};
 ghost use Rattle.rv_cursor.specs.Moves.{Beside, FetchMoves, Moves, StepsBacks, TurnMoves, part_of, ruled};
-ghost use Rattle.rv_cursor.specs.declared.fetching.Turned.TheVariants.{Working};
+ghost use Rattle.rv_reader.specs.declared.step.Step.TheVariants.{Working};
 
 use crate::cursor::{Open, work_piece};
 use crate::sight::Sight;
-use rv_join::PlanStep;
 use rv_judge::{Judge, Steps};
 use rv_lang::Reply;
 use rv_model::Offer;
-use rv_reader::Reader;
+use rv_reader::{Reader, Step};
 use rv_value::{Duplicate, NoMemory, Values};
 use rv_view::Snapshot;
 use std::alloc::Global;
-
-/// What a turn of a FETCH comes to.
-#[derive(Clone, Copy)]
-pub(crate) enum Turned {
-    /// A row is in hand.
-    Held,
-    /// Nothing is left.
-    End,
-    /// The plan works on.
-    Working,
-}
 
 /// The replies of the offer that was in hand: its row, which moves into the first, and a copy of it.
 fn replies_of(given: Option<Offer>, copy: Values) -> (Reply, Reply)
@@ -95,14 +83,15 @@ fn work_beside<R: Reader>(
     }
 }
 
-/// One turn of a FETCH, which makes no reply: where no row is in hand the plan is stepped, and its row is in hand then.
+/// One turn of a FETCH, which makes no reply: where no row is in hand the plan is stepped, and its row is in hand then. A row
+/// that it answers is the one in hand.
 fn turn<R: Reader>(
     cursor: &mut Open,
     reader: &R,
     judge: &mut Box<dyn Judge>,
     beside: u8,
     steps: &mut Steps<R::Ledger>,
-) -> Result<Turned, NoMemory>
+) -> Result<Step<()>, NoMemory>
     requires fits { CursorFits (R.shown reader.now) cursor.old }
     ensures stays { Stays (R.shown reader.now) cursor.old cursor.new }
     ensures hand { IfOk result (λ turned. LeavesHand turned (left (R.shown reader.now) cursor.new) cursor.new.hand) }
@@ -113,7 +102,7 @@ fn turn<R: Reader>(
     ensures stays_rule { would judge.new ≡ would judge.old }
 {
     if cursor.hand.is_some() {
-        return Ok(Turned::Held);
+        return Ok(Step::Row(()));
     }
     let at = Snapshot {
         reader,
@@ -124,16 +113,16 @@ fn turn<R: Reader>(
         view: &cursor.frozen,
     };
     match cursor.plan.step(&seen, judge, steps)? {
-        PlanStep::Row(offer) => {
+        Step::Row(offer) => {
             drop(cursor.hand.replace(offer));
             work_beside(cursor, reader, judge, beside, steps);
-            Ok(Turned::Held)
+            Ok(Step::Row(()))
         }
-        PlanStep::Working => {
+        Step::Working => {
             work_beside(cursor, reader, judge, beside, steps);
-            Ok(Turned::Working)
+            Ok(Step::Working)
         }
-        PlanStep::End => Ok(Turned::End),
+        Step::End => Ok(Step::End),
     }
 }
 
@@ -160,12 +149,12 @@ pub fn fetch_step<R: Reader>(
     ensures stays_rule { would judge.new ≡ would judge.old }
 {
     match turn(cursor, reader, judge, beside, steps) {
-        Ok(Turned::Held) => {
+        Ok(Step::Row(())) => {
             let replies = give(alloc, cursor)?;
             Ok(Some(replies))
         }
-        Ok(Turned::End) => Ok(Some((Reply::End, Reply::End))),
-        Ok(Turned::Working) => Ok(None),
+        Ok(Step::End) => Ok(Some((Reply::End, Reply::End))),
+        Ok(Step::Working) => Ok(None),
         Err(NoMemory) => Err(NoMemory),
     }
 }
@@ -194,9 +183,9 @@ pub fn fetch<R: Reader>(
 {
     'turns: loop {
         match turn(cursor, reader, judge, beside, steps) {
-            Ok(Turned::Held) => return give(alloc, cursor),
-            Ok(Turned::End) => return Ok((Reply::End, Reply::End)),
-            Ok(Turned::Working) => {}
+            Ok(Step::Row(())) => return give(alloc, cursor),
+            Ok(Step::End) => return Ok((Reply::End, Reply::End)),
+            Ok(Step::Working) => {}
             Err(NoMemory) => return Err(NoMemory),
         }
     }

@@ -13,7 +13,8 @@ use Rattle.rv_join.specs.Alone.Onward.{Rests, Uses, Opens, Fails, Returns}
 use Rattle.rv_join.specs.Levels.{Stacked, down, used}
 use Rattle.rv_join.specs.Moves.{OpensInner}
 use Rattle.rv_join.specs.Plans.{Planned}
-use Rattle.rv_join.specs.declared.plan.PlanStep.{PlanStep}
+use Rattle.rv_reader.specs.declared.step.Step.{Step}
+use Rattle.rv_model.specs.declared.state.Offer.{Offer}
 
 pub goes_not : (a : Asked) (shown : Shown) (c : Counts) (v : Stacked) → GoesOn a shown c c v v
 goes_not a shown c v = (Rests, (refl, refl))
@@ -54,7 +55,7 @@ asks_then would state after shown c d old mid new asks same = subst (λ (v : Sta
 pub once_then : (would : ℕ → Facts → Ruling) (state after : ℕ) (shown : Shown) (c d : Counts) (old mid new : Planned) → (IsAlone old → StepsOnce would state after shown c d old.stack.at mid.stack.at) → new.stack ≡ mid.stack → IsAlone old → StepsOnce would state after shown c d old.stack.at new.stack.at
 once_then would state after shown c d old mid new once same one = subst (λ (v : Stacked). StepsOnce would state after shown c d old.stack.at v.at) (sym same) (once one)
 
-pub spends_then : {E : Type 0} (r : Result PlanStep E) (shown : Shown) (c d : Counts) (old mid new : Planned) → (IsAlone old → IfOk r (λ m. PlanSpends m c d (plan_effort shown old) (plan_effort shown mid))) → new.stack ≡ mid.stack → IsAlone old → IfOk r (λ m. PlanSpends m c d (plan_effort shown old) (plan_effort shown new))
+pub spends_then : {E : Type 0} (r : Result (Step Offer) E) (shown : Shown) (c d : Counts) (old mid new : Planned) → (IsAlone old → IfOk r (λ m. PlanSpends m c d (plan_effort shown old) (plan_effort shown mid))) → new.stack ≡ mid.stack → IsAlone old → IfOk r (λ m. PlanSpends m c d (plan_effort shown old) (plan_effort shown new))
 spends_then r shown c d old mid new spends same one = subst (λ (v : Stacked). IfOk r (λ m. PlanSpends m c d (plan_effort shown old) (level_effort shown v.at))) (sym same) (spends one)
 
 pub fetches_then : (shown : Shown) (c d : Counts) (old mid new : Planned) → (IsAlone old → Fetches shown c d old.stack.at.here mid.stack.at.here) → new.stack ≡ mid.stack → IsAlone old → Fetches shown c d old.stack.at.here new.stack.at.here

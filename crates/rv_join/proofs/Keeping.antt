@@ -11,7 +11,8 @@ use Rattle.rv_access.specs.Accesses.{AccessFits, SamePlans, query_of, trace_of}
 use Rattle.rv_access.proofs.Accesses.{allowed}
 use Rattle.rv_join.specs.declared.places.Asked.{Asked}
 use Rattle.rv_join.specs.declared.level.Level.{Level}
-use Rattle.rv_join.specs.declared.plan.PlanStep.{PlanStep}
+use Rattle.rv_reader.specs.declared.step.Step.{Step}
+use Rattle.rv_model.specs.declared.state.Offer.{Offer}
 use Rattle.rv_join.specs.Asking.{item_at}
 use Rattle.rv_join.specs.Levels.{AllFit, LevelFits, Stacked, StackFits, first_in, first_of}
 use Rattle.rv_join.specs.Moves.{Rises, StackStays}
@@ -98,14 +99,14 @@ stays_counted shown old mid new reads stays same = rw same (record { asked = sta
 
 -- A step, whose reads are counted behind it.
 
-pub asked_same : {E : Type 0} (shown : Shown) (r : Result PlanStep E) (old new : Planned) → IfOk r (λ m. PlanMoves shown m old new) → OnErr r (PlanKept shown old new) → new.asked ≡ old.asked
+pub asked_same : {E : Type 0} (shown : Shown) (r : Result (Step Offer) E) (old new : Planned) → IfOk r (λ m. PlanMoves shown m old new) → OnErr r (PlanKept shown old new) → new.asked ≡ old.asked
 asked_same shown (Ok m) old new moves kept = moves.asked
 asked_same shown (Err e) old new moves kept = kept.asked
 
-counted_one : (shown : Shown) (m : PlanStep) (old mid new : Planned) (reads : Counts) → PlanMoves shown m old mid → new ≡ record mid { reads = reads } → PlanMoves shown m old new
+counted_one : (shown : Shown) (m : Step Offer) (old mid new : Planned) (reads : Counts) → PlanMoves shown m old mid → new ≡ record mid { reads = reads } → PlanMoves shown m old new
 counted_one shown m old mid new reads moves same = rw same (record { asked = moves.asked; step = moves.step; work = moves.work })
 
-pub counted_moves : {E : Type 0} (shown : Shown) (r : Result PlanStep E) (old mid new : Planned) (reads : Counts) → IfOk r (λ m. PlanMoves shown m old mid) → new ≡ record mid { reads = reads } → IfOk r (λ m. PlanMoves shown m old new)
+pub counted_moves : {E : Type 0} (shown : Shown) (r : Result (Step Offer) E) (old mid new : Planned) (reads : Counts) → IfOk r (λ m. PlanMoves shown m old mid) → new ≡ record mid { reads = reads } → IfOk r (λ m. PlanMoves shown m old new)
 counted_moves shown (Ok m) old mid new reads moves same = counted_one shown m old mid new reads moves same
 counted_moves shown (Err e) old mid new reads moves same = tt
 

@@ -27,12 +27,9 @@ use Rattle.rv_access.specs.Stepping.{MayReadIts, OnlyTakes, SameCourse, SettledT
 use Rattle.rv_access.proofs.Accesses.{course_plans, plans_stay, steps_plans}
 use Rattle.rv_access.proofs.Chosen.{chosen_apart, no_union, raced_strategy}
 use Rattle.rv_access.proofs.Counting.{OneUp, may_up, same_up}
-use Rattle.rv_join.specs.declared.level.Caught.TheVariants.{Ready}
+use Rattle.rv_reader.specs.declared.step.Step.TheVariants.{Row, Working, End}
 use Rattle.rv_join.specs.declared.level.Level.{Level}
-use Rattle.rv_join.specs.declared.plan.PlanStep.{PlanStep}
-use Rattle.rv_join.specs.declared.plan.PlanStep.TheVariants.{Row, End as PlanEnd, Working as PlanWorking}
-use Rattle.rv_join.specs.declared.stack.Moved.{Moved}
-use Rattle.rv_join.specs.declared.stack.Moved.TheVariants.{Gave, Done, Moving}
+use Rattle.rv_reader.specs.declared.step.Step.{Step}
 use Rattle.rv_join.specs.Alone.{CallsOnce, Fetches, FewFetches, FgCalls, IsAlone, LevelSpends, MovedSpends, PlanSpends, Spends, StepsOnce, TakesOnce, level_effort}
 use Rattle.rv_catalog.specs.declared.def.IndexDef.{IndexDef}
 use Rattle.rv_catalog.specs.declared.def.Select.{Select}
@@ -44,7 +41,7 @@ use Rattle.rv_judge.specs.declared.events.Strategy.TheVariants.{BackgroundOnly}
 use Rattle.rv_join.specs.declared.places.Asked.{Asked}
 use Rattle.rv_join.specs.Asking.{Asks, IsAsked, indexes_from, table_at}
 use Rattle.rv_join.specs.Levels.{StackFits, Stacked, down, first_in, first_of, used}
-use Rattle.rv_join.specs.Plans.{Gives, Planned, reads_with, step_of}
+use Rattle.rv_join.specs.Plans.{Gives, Planned, reads_with}
 use Rattle.rv_join.specs.Rules.{IsByRules, StandsBy}
 use Rattle.rv_join.specs.Work.{held_rows}
 use Rattle.rv_join.proofs.Accounting.{alone_above}
@@ -124,18 +121,22 @@ held_spends c e (Some row) some = (omega arith, omega arith)
 -- Steps of the nested loops.
 
 -- the row is dropped, whatever the step is then called
-pub used_spends : (shown : Shown) (m : Moved) (c d : Counts) (o : ℕ) (v : Stacked) → Spends c d o (effort v.at.here shown) → effort v.at.here shown < o → MovedSpends m c d o (level_effort shown (used v).at)
-used_spends shown (Gave offer) c d o v spends less = (omega (arith, spends), omega (arith, less))
-used_spends shown Done c d o v spends less = (omega (arith, spends), omega (arith, less))
-used_spends shown Moving c d o v spends less = (omega (arith, spends), omega (arith, less))
+pub used_spends : (shown : Shown) (m : Step Offer) (c d : Counts) (o : ℕ) (v : Stacked) → Spends c d o (effort v.at.here shown) → effort v.at.here shown < o → MovedSpends m c d o (level_effort shown (used v).at)
+used_spends shown (Row offer) c d o v spends less = (omega (arith, spends), omega (arith, less))
+used_spends shown End c d o v spends less = (omega (arith, spends), omega (arith, less))
+used_spends shown Working c d o v spends less = (omega (arith, spends), omega (arith, less))
 
 pub used_once : (would : ℕ → Facts → Ruling) (state after : ℕ) (shown : Shown) (c d : Counts) (old : Level) (v : Stacked) → StepsOnce would state after shown c d old v.at → StepsOnce would state after shown c d old (used v).at
 used_once would state after shown c d old v once = let tries = once.tries in let less = tries.less in record { calls = once.calls; tries = record { once = tries.once; less = omega (arith, less) } }
 
-pub moved_spends : (m : Moved) (c d : Counts) (old new : ℕ) → MovedSpends m c d old new → PlanSpends (step_of m) c d old new
-moved_spends (Gave o) c d old new spends = let less = spends.1 in (spends.0, omega (arith, less))
-moved_spends Done c d old new spends = spends
-moved_spends Moving c d old new spends = spends
+moved_one : (m : Step Offer) (c d : Counts) (old new : ℕ) → MovedSpends m c d old new → PlanSpends m c d old new
+moved_one (Row o) c d old new spends = let less = spends.1 in (spends.0, omega (arith, less))
+moved_one End c d old new spends = spends
+moved_one Working c d old new spends = spends
+
+pub moved_spends : {E : Type 0} (r : Result (Step Offer) E) (c d : Counts) (old new : ℕ) → IfOk r (λ m. MovedSpends m c d old new) → IfOk r (λ m. PlanSpends m c d old new)
+moved_spends (Ok m) c d old new spends = moved_one m c d old new spends
+moved_spends (Err e) c d old new spends = tt
 
 -- A look for a level's next row: it failed, it came to no row, and it found one.
 
@@ -156,14 +157,14 @@ alone_ended a shown old mid new fits same ends one = ends (ap (λ (v : Stacked).
 pub alone_none : (a : Asked) (shown : Shown) (old mid : Stacked) → StackFits a shown old → mid ≡ record old { at = mid.at } → length a.items ≡ 1 → mid.above ≡ []
 alone_none a shown old mid fits same one = ap (λ (v : Stacked). v.above) same ∙ alone_above a shown old fits one
 
-pub done_spends : (m : Moved) (c d : Counts) (old new : ℕ) → m ≡ Done → Spends c d old new × (new ≤ old) → MovedSpends m c d old new
+pub done_spends : (m : Step Offer) (c d : Counts) (old new : ℕ) → m ≡ End → Spends c d old new × (new ≤ old) → MovedSpends m c d old new
 done_spends m c d old new done spends = rw done spends
 
-pub uses_once : {E : Type 0} (r : Result Moved E) (would : ℕ → Facts → Ruling) (state after : ℕ) (shown : Shown) (c d end : Counts) (old : Level) (mid new : Stacked) → OnOk r (new ≡ used mid) → OnErr r (new ≡ mid) → end ≡ d → StepsOnce would state after shown c d old mid.at → StepsOnce would state after shown c end old new.at
+pub uses_once : {E : Type 0} (r : Result (Step Offer) E) (would : ℕ → Facts → Ruling) (state after : ℕ) (shown : Shown) (c d end : Counts) (old : Level) (mid new : Stacked) → OnOk r (new ≡ used mid) → OnErr r (new ≡ mid) → end ≡ d → StepsOnce would state after shown c d old mid.at → StepsOnce would state after shown c end old new.at
 uses_once (Ok m) would state after shown c d end old mid new uses err same once = rw (uses, same) (used_once would state after shown c d old mid once)
 uses_once (Err e) would state after shown c d end old mid new uses err same once = rw (err, same) once
 
-pub uses_spends : {E : Type 0} (r : Result Moved E) (shown : Shown) (c d end : Counts) (old : Level) (mid new : Stacked) → OnOk r (new ≡ used mid) → end ≡ d → LevelSpends shown Ready c d old mid.at → IfOk r (λ m. MovedSpends m c end (level_effort shown old) (level_effort shown new.at))
+pub uses_spends : {E : Type 0} (r : Result (Step Offer) E) (shown : Shown) (c d end : Counts) (old : Level) (mid new : Stacked) → OnOk r (new ≡ used mid) → end ≡ d → LevelSpends shown (Row tt) c d old mid.at → IfOk r (λ m. MovedSpends m c end (level_effort shown old) (level_effort shown new.at))
 uses_spends (Ok m) shown c d end old mid new uses same spends = rw (uses, same) (used_spends shown m c d (level_effort shown old) mid spends.0 spends.1)
 uses_spends (Err e) shown c d end old mid new uses same spends = tt
 
@@ -200,7 +201,7 @@ pub fetches_same : (shown : Shown) (c : Counts) (old new : Planned) → new ≡ 
 fetches_same shown c old new same = subst (λ (v : Stacked). Fetches shown c c old.stack.at.here v.at.here) (sym (ap (λ (p : Planned). p.stack) same)) (no_fetch shown c old.stack.at.here)
 
 -- the row that was found is used
-pub uses_fetches : {E : Type 0} (r : Result Moved E) (shown : Shown) (c d end : Counts) (old : Access) (mid new : Stacked) → OnOk r (new ≡ used mid) → end ≡ d → Fetches shown c d old mid.at.here → OnOk r (Fetches shown c end old new.at.here)
+pub uses_fetches : {E : Type 0} (r : Result (Step Offer) E) (shown : Shown) (c d end : Counts) (old : Access) (mid new : Stacked) → OnOk r (new ≡ used mid) → end ≡ d → Fetches shown c d old mid.at.here → OnOk r (Fetches shown c end old new.at.here)
 uses_fetches (Ok m) shown c d end old mid new uses same fetches = rw (uses, same) fetches
 uses_fetches (Err e) shown c d end old mid new uses same fetches = tt
 
@@ -246,7 +247,7 @@ counted_as : (mid new : Planned) (c d before after : Counts) → before ≡ c �
 counted_as mid new c d before after b a same = rw (b, a) at same
 
 -- an answered step
-pub few_ok : {E : Type 0} (r : Result PlanStep E) (would : ℕ → Facts → Ruling) (state after : ℕ) (shown : Shown) (c d before behind : Counts) (old mid new : Planned) → before ≡ c → behind ≡ d → before.records < 2 ^ 64 → mid.reads ≡ old.reads → new ≡ record mid { reads = reads_with mid.reads before behind } → (IsAlone old → StepsOnce would state after shown c d old.stack.at mid.stack.at) → (IsAlone old → OnOk r (Fetches shown c d old.stack.at.here mid.stack.at.here)) → IsAlone old → OnOk r (FewFetches 0 shown old new)
+pub few_ok : {E : Type 0} (r : Result (Step Offer) E) (would : ℕ → Facts → Ruling) (state after : ℕ) (shown : Shown) (c d before behind : Counts) (old mid new : Planned) → before ≡ c → behind ≡ d → before.records < 2 ^ 64 → mid.reads ≡ old.reads → new ≡ record mid { reads = reads_with mid.reads before behind } → (IsAlone old → StepsOnce would state after shown c d old.stack.at mid.stack.at) → (IsAlone old → OnOk r (Fetches shown c d old.stack.at.here mid.stack.at.here)) → IsAlone old → OnOk r (FewFetches 0 shown old new)
 few_ok (Ok m) would state after shown c d before behind old mid new b e within reads same once fetches one =
     let calls = (once one).calls in
     let up = calls_up would state after shown c d old.stack.at.here mid.stack.at.here (subst (λ (k : Counts). k.records < 2 ^ 64) b within) calls in
@@ -286,22 +287,22 @@ given_less (Err e) shown old new less = tt
 
 -- Plans.
 
-one_given : (m : PlanStep) (had has : List Offer) → Gives m had has → (c : Counts) (n : ℕ) → PlanSpends m c c n n
+one_given : (m : Step Offer) (had has : List Offer) → Gives m had has → (c : Counts) (n : ℕ) → PlanSpends m c c n n
 one_given (Row o) had has gives c n = (omega arith, omega arith)
-one_given PlanEnd had has gives c n = (omega arith, omega arith)
-one_given PlanWorking had has gives c n = absurd (cc)
+one_given End had has gives c n = (omega arith, omega arith)
+one_given Working had has gives c n = absurd (cc)
 
-pub given_spends : {E : Type 0} (r : Result PlanStep E) (had has : List Offer) → IfOk r (λ m. Gives m had has) → (c : Counts) (n : ℕ) → IfOk r (λ m. PlanSpends m c c n n)
+pub given_spends : {E : Type 0} (r : Result (Step Offer) E) (had has : List Offer) → IfOk r (λ m. Gives m had has) → (c : Counts) (n : ℕ) → IfOk r (λ m. PlanSpends m c c n n)
 given_spends (Ok m) had has gives c n = one_given m had has gives c n
 given_spends (Err e) had has gives c n = tt
 
 -- all are gathered, and the first is given
-one_spends : (m : PlanStep) (had has : List Offer) (c d : Counts) (old new : ℕ) → Gives m had has → Spends c d old new × (new ≤ old) → PlanSpends m c d old new
+one_spends : (m : Step Offer) (had has : List Offer) (c d : Counts) (old new : ℕ) → Gives m had has → Spends c d old new × (new ≤ old) → PlanSpends m c d old new
 one_spends (Row o) had has c d old new gives spends = spends
-one_spends PlanEnd had has c d old new gives spends = spends
-one_spends PlanWorking had has c d old new gives spends = absurd (cc)
+one_spends End had has c d old new gives spends = spends
+one_spends Working had has c d old new gives spends = absurd (cc)
 
-pub all_spends : {E : Type 0} (r : Result PlanStep E) (had has : List Offer) (c d : Counts) (old new : ℕ) → IfOk r (λ m. Gives m had has) → Spends c d old new × (new ≤ old) → IfOk r (λ m. PlanSpends m c d old new)
+pub all_spends : {E : Type 0} (r : Result (Step Offer) E) (had has : List Offer) (c d : Counts) (old new : ℕ) → IfOk r (λ m. Gives m had has) → Spends c d old new × (new ≤ old) → IfOk r (λ m. PlanSpends m c d old new)
 all_spends (Ok m) had has c d old new gives spends = one_spends m had has c d old new gives spends
 all_spends (Err e) had has c d old new gives spends = tt
 

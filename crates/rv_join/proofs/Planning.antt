@@ -10,14 +10,12 @@ use Rattle.rv_model.specs.declared.state.Offer.{Offer}
 use Rattle.rv_reader.specs.Shown.{Shown}
 use Rattle.rv_join.specs.declared.places.Asked.{Asked}
 use Rattle.rv_join.specs.declared.gather.Stage.TheVariants.{AsFound, Gathering, Giving}
-use Rattle.rv_join.specs.declared.plan.PlanStep.{PlanStep}
-use Rattle.rv_join.specs.declared.plan.PlanStep.TheVariants.{Row, End, Working}
-use Rattle.rv_join.specs.declared.stack.Moved.{Moved}
-use Rattle.rv_join.specs.declared.stack.Moved.TheVariants.{Gave, Done, Moving}
+use Rattle.rv_reader.specs.declared.step.Step.{Step}
+use Rattle.rv_reader.specs.declared.step.Step.TheVariants.{Row, Working, End}
 use Rattle.rv_join.specs.Levels.{Stacked, StackFits, bag}
 use Rattle.rv_join.specs.Moves.{Kept, Moves, Takes}
 use Rattle.rv_join.specs.Order.{before}
-use Rattle.rv_join.specs.Plans.{GathersAll, GathersMore, Gives, GivesOne, HoldsGood, Planned, PlanKept, PlanMoves, Sorts, StepsTo, WorkTo, plan_rest, plan_work, step_of}
+use Rattle.rv_join.specs.Plans.{GathersAll, GathersMore, Gives, GivesOne, HoldsGood, Planned, PlanKept, PlanMoves, Sorts, StepsTo, WorkTo, plan_rest, plan_work}
 use Rattle.rv_join.specs.Work.{loops_work}
 use Rattle.rv_join.proofs.Stacking.{none_before}
 
@@ -46,15 +44,27 @@ found_gives shown old new o holds stage takes same = rw same (record {
 pub found_kept : (shown : Shown) (old new : Planned) → old.stage ≡ AsFound → Kept old.asked shown old.stack new.stack → new ≡ record old { stack = new.stack } → PlanKept shown old new
 found_kept shown old new stage kept same = rw same (record { asked = refl; rest_kept = rw stage kept.bag; work = kept.work })
 
-pub found_moves : (shown : Shown) (m : Moved) (old new : Planned) → HoldsGood shown old → old.stage ≡ AsFound → Moves old.asked shown m old.stack new.stack → new ≡ record old { stack = new.stack } → PlanMoves shown (step_of m) old new
-found_moves shown (Gave o) old new holds stage moves same = rw same (record { asked = refl; step = rw stage (record { out = moves.bag; least = moves.least (holds.ordered stage) (holds.led stage) }); work = le_of_lt moves.work })
-found_moves shown Done old new holds stage moves same = rw same (record { asked = refl; step = rw stage (moves.1, none_before _ (IsPermutation-sym _ _ (subst (λ l. IsPermutation l (bag old.asked shown new.stack)) moves.1 moves.0.bag))); work = moves.0.work })
-found_moves shown Moving old new holds stage moves same = rw same (record { asked = refl; step = rw stage moves.0.bag; work = moves.1 })
+pub found_moves : (shown : Shown) (m : Step Offer) (old new : Planned) → HoldsGood shown old → old.stage ≡ AsFound → Moves old.asked shown m old.stack new.stack → new ≡ record old { stack = new.stack } → PlanMoves shown m old new
+found_moves shown (Row o) old new holds stage moves same = rw same (record { asked = refl; step = rw stage (record { out = moves.bag; least = moves.least (holds.ordered stage) (holds.led stage) }); work = le_of_lt moves.work })
+found_moves shown End old new holds stage moves same = rw same (record { asked = refl; step = rw stage (moves.1, none_before _ (IsPermutation-sym _ _ (subst (λ l. IsPermutation l (bag old.asked shown new.stack)) moves.1 moves.0.bag))); work = moves.0.work })
+found_moves shown Working old new holds stage moves same = rw same (record { asked = refl; step = rw stage moves.0.bag; work = moves.1 })
 
-pub found_good : (shown : Shown) (m : Moved) (old new : Planned) → HoldsGood shown old → old.stage ≡ AsFound → Moves old.asked shown m old.stack new.stack → new ≡ record old { stack = new.stack } → HoldsGood shown new
-found_good shown (Gave o) old new holds stage moves same = found_gives shown old new o holds stage moves same
-found_good shown Done old new holds stage moves same = found_holds shown old new holds stage moves.0 same
-found_good shown Moving old new holds stage moves same = found_holds shown old new holds stage moves.0 same
+pub found_step : {E : Type 0} (r : Result (Step Offer) E) (shown : Shown) (old new : Planned) → HoldsGood shown old → old.stage ≡ AsFound → IfOk r (λ m. Moves old.asked shown m old.stack new.stack) → new ≡ record old { stack = new.stack } → IfOk r (λ m. PlanMoves shown m old new)
+found_step (Ok m) shown old new holds stage moves same = found_moves shown m old new holds stage moves same
+found_step (Err e) shown old new holds stage moves same = tt
+
+found_good : (shown : Shown) (m : Step Offer) (old new : Planned) → HoldsGood shown old → old.stage ≡ AsFound → Moves old.asked shown m old.stack new.stack → new ≡ record old { stack = new.stack } → HoldsGood shown new
+found_good shown (Row o) old new holds stage moves same = found_gives shown old new o holds stage moves same
+found_good shown End old new holds stage moves same = found_holds shown old new holds stage moves.0 same
+found_good shown Working old new holds stage moves same = found_holds shown old new holds stage moves.0 same
+
+pub found_fits : {E : Type 0} (r : Result (Step Offer) E) (shown : Shown) (old new : Planned) → HoldsGood shown old → old.stage ≡ AsFound → IfOk r (λ m. Moves old.asked shown m old.stack new.stack) → OnErr r (Kept old.asked shown old.stack new.stack) → new ≡ record old { stack = new.stack } → HoldsGood shown new
+found_fits (Ok m) shown old new holds stage moves kept same = found_good shown m old new holds stage moves same
+found_fits (Err e) shown old new holds stage moves kept same = found_holds shown old new holds stage kept same
+
+pub found_failed : {X E : Type 0} (r : Result X E) (shown : Shown) (old new : Planned) → old.stage ≡ AsFound → OnErr r (Kept old.asked shown old.stack new.stack) → new ≡ record old { stack = new.stack } → OnErr r (PlanKept shown old new)
+found_failed (Ok x) shown old new stage kept same = tt
+found_failed (Err e) shown old new stage kept same = rw same (record { asked = refl; rest_kept = rw stage kept.bag; work = kept.work })
 
 -- Gathering.
 
@@ -115,12 +125,12 @@ first_least o new up = record {
 pub sorted_tail : (o : Offer) (new : List Offer) → IsSortedBy before (o ∷ new) → IsSortedBy before new
 sorted_tail o new up = λ k d low high. let next : suc k + 1 ≡ suc (k + 1) = omega arith in subst (λ n. before (slice_index_or (o ∷ new) n d) (slice_index_or new k d) ≡ false) next (up (suc k) d (omega arith) (omega (arith, high)))
 
-pub given_moves : (shown : Shown) (m : PlanStep) (old new : Planned) → HoldsGood shown old → old.stage ≡ Giving → Gives m old.gathered new.gathered → new ≡ record old { gathered = new.gathered } → PlanMoves shown m old new
+pub given_moves : (shown : Shown) (m : Step Offer) (old new : Planned) → HoldsGood shown old → old.stage ≡ Giving → Gives m old.gathered new.gathered → new ≡ record old { gathered = new.gathered } → PlanMoves shown m old new
 given_moves shown (Row o) old new holds stage gives same = rw same (record { asked = refl; step = rw (stage, gives) (first_least o new.gathered (rw gives at holds.sorted stage)); work = le_refl (loops_work old.asked shown old.stack) })
 given_moves shown End old new holds stage gives same = rw same (record { asked = refl; step = rw stage gives; work = le_refl (loops_work old.asked shown old.stack) })
 given_moves shown Working old new holds stage gives same = no_way gives
 
-pub given_good : (shown : Shown) (m : PlanStep) (old new : Planned) → HoldsGood shown old → old.stage ≡ Giving → Gives m old.gathered new.gathered → new ≡ record old { gathered = new.gathered } → HoldsGood shown new
+pub given_good : (shown : Shown) (m : Step Offer) (old new : Planned) → HoldsGood shown old → old.stage ≡ Giving → Gives m old.gathered new.gathered → new ≡ record old { gathered = new.gathered } → HoldsGood shown new
 given_good shown m old new holds stage gives same = rw same (record {
   can = holds.can;
   stack = holds.stack;
@@ -129,21 +139,21 @@ given_good shown m old new holds stage gives same = rw same (record {
   sorted = λ e. up m gives;
 })
   where
-    up : (m : PlanStep) → Gives m old.gathered new.gathered → IsSortedBy before new.gathered
+    up : (m : Step Offer) → Gives m old.gathered new.gathered → IsSortedBy before new.gathered
     up (Row o) gives = sorted_tail o new.gathered (rw gives at holds.sorted stage)
     up End gives = subst (λ l. IsSortedBy before l) (gives.0 ∙ sym gives.1) (holds.sorted stage)
     up Working gives = no_way gives
 
 -- an offer is given, or no memory was found for it
-pub given_step : {E : Type 0} (r : Result PlanStep E) (shown : Shown) (old new : Planned) → HoldsGood shown old → old.stage ≡ Giving → IfOk r (λ m. Gives m old.gathered new.gathered) → new ≡ record old { gathered = new.gathered } → IfOk r (λ m. PlanMoves shown m old new)
+pub given_step : {E : Type 0} (r : Result (Step Offer) E) (shown : Shown) (old new : Planned) → HoldsGood shown old → old.stage ≡ Giving → IfOk r (λ m. Gives m old.gathered new.gathered) → new ≡ record old { gathered = new.gathered } → IfOk r (λ m. PlanMoves shown m old new)
 given_step (Ok m) shown old new holds stage gives same = given_moves shown m old new holds stage gives same
 given_step (Err e) shown old new holds stage gives same = tt
 
-pub given_fits : {E : Type 0} (r : Result PlanStep E) (shown : Shown) (old new : Planned) → HoldsGood shown old → old.stage ≡ Giving → IfOk r (λ m. Gives m old.gathered new.gathered) → OnErr r (new ≡ old) → new ≡ record old { gathered = new.gathered } → HoldsGood shown new
+pub given_fits : {E : Type 0} (r : Result (Step Offer) E) (shown : Shown) (old new : Planned) → HoldsGood shown old → old.stage ≡ Giving → IfOk r (λ m. Gives m old.gathered new.gathered) → OnErr r (new ≡ old) → new ≡ record old { gathered = new.gathered } → HoldsGood shown new
 given_fits (Ok m) shown old new holds stage gives err same = given_good shown m old new holds stage gives same
 given_fits (Err e) shown old new holds stage gives err same = subst (HoldsGood shown) (sym err) holds
 
-pub not_given : {E : Type 0} (r : Result PlanStep E) (shown : Shown) (old new : Planned) → OnErr r (new ≡ old) → OnErr r (PlanKept shown old new)
+pub not_given : {E : Type 0} (r : Result (Step Offer) E) (shown : Shown) (old new : Planned) → OnErr r (new ≡ old) → OnErr r (PlanKept shown old new)
 not_given (Ok m) shown old new err = tt
 not_given (Err e) shown old new err = rw err (record { asked = refl; rest_kept = IsPermutation-refl _; work = le_refl (loops_work old.asked shown old.stack) })
 
@@ -160,7 +170,7 @@ sorted_good shown old mid new holds stage all gathered sorts = rw (sorts.same, g
     no_stage : {X : Type 0} → Giving ≡ AsFound → X
     no_stage h = absurd (cc)
 
-pub all_moves : (shown : Shown) (m : PlanStep) (old mid sorted new : Planned) → HoldsGood shown old → old.stage ≡ Gathering → GathersAll old.asked shown old.stack old.gathered mid.stack mid.gathered → mid ≡ record old { stack = mid.stack; gathered = mid.gathered } → Sorts mid sorted → Gives m sorted.gathered new.gathered → new ≡ record sorted { gathered = new.gathered } → PlanMoves shown m old new
+pub all_moves : (shown : Shown) (m : Step Offer) (old mid sorted new : Planned) → HoldsGood shown old → old.stage ≡ Gathering → GathersAll old.asked shown old.stack old.gathered mid.stack mid.gathered → mid ≡ record old { stack = mid.stack; gathered = mid.gathered } → Sorts mid sorted → Gives m sorted.gathered new.gathered → new ≡ record sorted { gathered = new.gathered } → PlanMoves shown m old new
 all_moves shown m old mid sorted new holds stage all gathered sorts gives same =
     let good = sorted_good shown old mid sorted holds stage all gathered sorts in
     let is : sorted.stage ≡ Giving = ap (λ (p : Planned). p.stage) sorts.same in
@@ -176,7 +186,7 @@ all_moves shown m old mid sorted new holds stage all gathered sorts gives same =
     less : plan_work shown new ≤ plan_work shown old
     less = rw (same, sorts.same, gathered) all.kept.work
 
-    worked : (m : PlanStep) → Gives m sorted.gathered new.gathered → WorkTo m (plan_work shown old) (plan_work shown new)
+    worked : (m : Step Offer) → Gives m sorted.gathered new.gathered → WorkTo m (plan_work shown old) (plan_work shown new)
     worked (Row o) gives = less
     worked End gives = less
     worked Working gives = no_way gives
@@ -184,17 +194,17 @@ all_moves shown m old mid sorted new holds stage all gathered sorts gives same =
     moved : IsPermutation old.gathered sorted.gathered
     moved = rw (← all.offers) sorts.moved
 
-    stepped : (m : PlanStep) → StepsTo m (plan_rest shown sorted) (plan_rest shown new) → StepsTo m (plan_rest shown old) (plan_rest shown new)
+    stepped : (m : Step Offer) → StepsTo m (plan_rest shown sorted) (plan_rest shown new) → StepsTo m (plan_rest shown old) (plan_rest shown new)
     stepped (Row o) step = record { out = rw old_is (IsPermutation-trans _ _ _ moved (rw sorted_is at step.out)); least = step.least }
     stepped End step = (rw old_is (none_before _ (subst (λ l. IsPermutation old.gathered l) (sym sorted_is ∙ step.0) moved)), step.1)
     stepped Working step = rw old_is (IsPermutation-trans _ _ _ moved (rw sorted_is at step))
 
-pub all_step : {E : Type 0} (r : Result PlanStep E) (shown : Shown) (old mid sorted new : Planned) → HoldsGood shown old → old.stage ≡ Gathering → GathersAll old.asked shown old.stack old.gathered mid.stack mid.gathered → mid ≡ record old { stack = mid.stack; gathered = mid.gathered } → Sorts mid sorted → IfOk r (λ m. Gives m sorted.gathered new.gathered) → new ≡ record sorted { gathered = new.gathered } → IfOk r (λ m. PlanMoves shown m old new)
+pub all_step : {E : Type 0} (r : Result (Step Offer) E) (shown : Shown) (old mid sorted new : Planned) → HoldsGood shown old → old.stage ≡ Gathering → GathersAll old.asked shown old.stack old.gathered mid.stack mid.gathered → mid ≡ record old { stack = mid.stack; gathered = mid.gathered } → Sorts mid sorted → IfOk r (λ m. Gives m sorted.gathered new.gathered) → new ≡ record sorted { gathered = new.gathered } → IfOk r (λ m. PlanMoves shown m old new)
 all_step (Ok m) shown old mid sorted new holds stage all gathered sorts gives same = all_moves shown m old mid sorted new holds stage all gathered sorts gives same
 all_step (Err e) shown old mid sorted new holds stage all gathered sorts gives same = tt
 
 -- all is sorted, and no memory was found to give the first
-pub all_failed : {E : Type 0} (r : Result PlanStep E) (shown : Shown) (old mid sorted new : Planned) → old.stage ≡ Gathering → GathersAll old.asked shown old.stack old.gathered mid.stack mid.gathered → mid ≡ record old { stack = mid.stack; gathered = mid.gathered } → Sorts mid sorted → OnErr r (new ≡ sorted) → OnErr r (PlanKept shown old new)
+pub all_failed : {E : Type 0} (r : Result (Step Offer) E) (shown : Shown) (old mid sorted new : Planned) → old.stage ≡ Gathering → GathersAll old.asked shown old.stack old.gathered mid.stack mid.gathered → mid ≡ record old { stack = mid.stack; gathered = mid.gathered } → Sorts mid sorted → OnErr r (new ≡ sorted) → OnErr r (PlanKept shown old new)
 all_failed (Ok m) shown old mid sorted new stage all gathered sorts err = tt
 all_failed (Err e) shown old mid sorted new stage all gathered sorts err = rw (err, sorts.same, gathered) (record { asked = refl; rest_kept = rw old_is (rw (← all.offers) sorts.moved); work = all.kept.work })
   where

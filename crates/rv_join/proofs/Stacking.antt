@@ -13,8 +13,8 @@ use Rattle.rv_reader.specs.Shown.{Shown}
 use Rattle.rv_join.specs.declared.places.Asked.{Asked}
 use Rattle.rv_join.specs.declared.places.Item.{Item}
 use Rattle.rv_join.specs.declared.level.Level.{Level}
-use Rattle.rv_join.specs.declared.stack.Moved.{Moved}
-use Rattle.rv_join.specs.declared.stack.Moved.TheVariants.{Gave, Done, Moving}
+use Rattle.rv_reader.specs.declared.step.Step.{Step}
+use Rattle.rv_reader.specs.declared.step.Step.TheVariants.{Row, Working, End}
 use Rattle.rv_join.specs.Levels.{AllFit, LevelFits, StackFits, Stacked, bag, below, down, given, given_in, is_last, offered, over_row, still, tables_of, under, used}
 use Rattle.rv_join.specs.Moves.{Descends, Kept, LevelMoves, Moves, Takes}
 use Rattle.rv_join.specs.Work.{level_work, levels_work, loops_work}
@@ -126,7 +126,7 @@ climbs a shown old new fits none up =
       less,
     )
 
-pub ends : (a : Asked) (shown : Shown) (old new : Stacked) → StackFits a shown old → still a shown old.at ≡ [] → (old.above ≡ []) × (new ≡ old) → Moves a shown Done old new
+pub ends : (a : Asked) (shown : Shown) (old new : Stacked) → StackFits a shown old → still a shown old.at ≡ [] → (old.above ≡ []) × (new ≡ old) → Moves a shown End old new
 ends a shown old new fits none top = rw top.1 (record { fits = fits; bag = IsPermutation-refl _; led = λ by led. led; work = le_refl _ }, rw (none, top.0) refl)
 
 pub none_before : {A : Type 0} (xs : List A) → IsPermutation xs [] → xs ≡ []
@@ -136,12 +136,12 @@ none_before (x ∷ xs) p = absurd (omega (arith, length_permutation (x ∷ xs) [
 kept_kept : (a : Asked) (shown : Shown) (old mid new : Stacked) → Kept a shown old mid → Kept a shown mid new → Kept a shown old new
 kept_kept a shown old mid new one two = record { fits = two.fits; bag = IsPermutation-trans _ _ _ one.bag two.bag; led = λ by led. two.led by (one.led by led); work = le_trans two.work one.work }
 
-pub kept_then : (a : Asked) (shown : Shown) (m : Moved) (old mid new : Stacked) → Kept a shown old mid → Moves a shown m mid new → Moves a shown m old new
-kept_then a shown (Gave o) old mid new kept moves = record { fits = moves.fits; bag = IsPermutation-trans _ _ _ kept.bag moves.bag; led = λ by led. moves.led by (kept.led by led); least = λ by led. moves.least by (kept.led by led); work = lt_of_lt_of_le moves.work kept.work }
-kept_then a shown Done old mid new kept moves = (kept_kept a shown old mid new kept moves.0, none_before _ (subst (λ l. IsPermutation (bag a shown old) l) moves.1 kept.bag))
-kept_then a shown Moving old mid new kept moves = (kept_kept a shown old mid new kept moves.0, lt_of_lt_of_le moves.1 kept.work)
+pub kept_then : (a : Asked) (shown : Shown) (m : Step Offer) (old mid new : Stacked) → Kept a shown old mid → Moves a shown m mid new → Moves a shown m old new
+kept_then a shown (Row o) old mid new kept moves = record { fits = moves.fits; bag = IsPermutation-trans _ _ _ kept.bag moves.bag; led = λ by led. moves.led by (kept.led by led); least = λ by led. moves.least by (kept.led by led); work = lt_of_lt_of_le moves.work kept.work }
+kept_then a shown End old mid new kept moves = (kept_kept a shown old mid new kept moves.0, none_before _ (subst (λ l. IsPermutation (bag a shown old) l) moves.1 kept.bag))
+kept_then a shown Working old mid new kept moves = (kept_kept a shown old mid new kept moves.0, lt_of_lt_of_le moves.1 kept.work)
 
-pub kept_then_if : {E : Type 0} (a : Asked) (shown : Shown) (r : Result Moved E) (old mid new : Stacked) → Kept a shown old mid → IfOk r (λ m. Moves a shown m mid new) → IfOk r (λ m. Moves a shown m old new)
+pub kept_then_if : {E : Type 0} (a : Asked) (shown : Shown) (r : Result (Step Offer) E) (old mid new : Stacked) → Kept a shown old mid → IfOk r (λ m. Moves a shown m mid new) → IfOk r (λ m. Moves a shown m old new)
 kept_then_if a shown (Ok m) old mid new kept moves = kept_then a shown m old mid new kept moves
 kept_then_if a shown (Err e) old mid new kept moves = moves
 

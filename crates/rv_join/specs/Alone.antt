@@ -18,14 +18,11 @@ use Rattle.rv_access.specs.Accesses.{Settled, effort, fetches_left}
 use Rattle.rv_access.specs.Given.{TakesLeaf}
 use Rattle.rv_access.specs.Opened.{lives}
 use Rattle.rv_access.specs.Stepping.{MayReadIts, OnlyTakes, SameCourse, StepsAs}
-use Rattle.rv_join.specs.declared.level.Caught.{Caught}
-use Rattle.rv_join.specs.declared.level.Caught.TheVariants.{Ready, Ended, Worked}
+use Rattle.rv_reader.specs.declared.step.Step.{Step}
+use Rattle.rv_model.specs.declared.state.Offer.{Offer}
+use Rattle.rv_reader.specs.declared.step.Step.TheVariants.{Row, Working, End}
 use Rattle.rv_join.specs.declared.level.Level.{Level}
 use Rattle.rv_join.specs.declared.places.Asked.{Asked}
-use Rattle.rv_join.specs.declared.plan.PlanStep.{PlanStep}
-use Rattle.rv_join.specs.declared.plan.PlanStep.TheVariants.{Row, End, Working}
-use Rattle.rv_join.specs.declared.stack.Moved.{Moved}
-use Rattle.rv_join.specs.declared.stack.Moved.TheVariants.{Gave, Done, Moving}
 use Rattle.rv_join.specs.Asking.{indexes_from, table_at}
 use Rattle.rv_join.specs.Levels.{Stacked, down, used}
 use Rattle.rv_join.specs.Moves.{OpensInner}
@@ -115,25 +112,25 @@ abbrev pub Spends : Counts → Counts → ℕ → ℕ → Type 0
 Spends c d old new = reads d + new ≤ reads c + old
 
 -- WHAT A STEP SPENDS: it lowers the effort by its reads, and Working by at least one
-abbrev pub PlanSpends : PlanStep → Counts → Counts → ℕ → ℕ → Type 0
+abbrev pub PlanSpends : Step Offer → Counts → Counts → ℕ → ℕ → Type 0
 PlanSpends (Row o) c d old new = Spends c d old new × (new ≤ old)
 PlanSpends End c d old new = Spends c d old new × (new ≤ old)
 PlanSpends Working c d old new = Spends c d old new × (new < old)
 
 -- the same of a look for a level's next row, whose row is still held
-abbrev pub LevelSpends : Shown → Caught → Counts → Counts → Level → Level → Type 0
-LevelSpends shown Ready c d old new =
+abbrev pub LevelSpends : Shown → Step (Unit {0}) → Counts → Counts → Level → Level → Type 0
+LevelSpends shown (Row held) c d old new =
     Spends c d (level_effort shown old) (effort new.here shown) × (effort new.here shown < level_effort shown old)
-LevelSpends shown Ended c d old new =
+LevelSpends shown End c d old new =
     Spends c d (level_effort shown old) (level_effort shown new) × (level_effort shown new ≤ level_effort shown old)
-LevelSpends shown Worked c d old new =
+LevelSpends shown Working c d old new =
     Spends c d (level_effort shown old) (level_effort shown new) × (level_effort shown new < level_effort shown old)
 
 -- the same of a step of the nested loops
-abbrev pub MovedSpends : Moved → Counts → Counts → ℕ → ℕ → Type 0
-MovedSpends (Gave o) c d old new = Spends c d old new × (new < old)
-MovedSpends Done c d old new = Spends c d old new × (new ≤ old)
-MovedSpends Moving c d old new = Spends c d old new × (new < old)
+abbrev pub MovedSpends : Step Offer → Counts → Counts → ℕ → ℕ → Type 0
+MovedSpends (Row o) c d old new = Spends c d old new × (new < old)
+MovedSpends End c d old new = Spends c d old new × (new ≤ old)
+MovedSpends Working c d old new = Spends c d old new × (new < old)
 
 -- the same of a step that gathers, which may find that all is gathered
 abbrev pub GatherSpends : Bool → Counts → Counts → ℕ → ℕ → Type 0

@@ -14,10 +14,8 @@ use Rattle.rv_retrieval.specs.Short.{OnlyLeaves}
 use Rattle.rv_scan.specs.Told.{width}
 use Rattle.rv_join.specs.declared.places.Asked.{Asked}
 use Rattle.rv_join.specs.declared.level.Level.{Level}
-use Rattle.rv_join.specs.declared.level.Caught.{Caught}
-use Rattle.rv_join.specs.declared.level.Caught.TheVariants.{Ready, Ended, Worked}
-use Rattle.rv_join.specs.declared.stack.Moved.{Moved}
-use Rattle.rv_join.specs.declared.stack.Moved.TheVariants.{Gave, Done, Moving}
+use Rattle.rv_reader.specs.declared.step.Step.{Step}
+use Rattle.rv_reader.specs.declared.step.Step.TheVariants.{Row, Working, End}
 use Rattle.rv_join.specs.Levels.{AllFit, LevelFits, Stacked, StackFits, bag, over_held, still, tables_of, under, widened}
 use Rattle.rv_join.specs.Asking.{Asks, item_at, lives_of}
 use Rattle.rv_join.specs.Work.{items_below, level_work, levels_work, loops_work, row_cost}
@@ -39,10 +37,10 @@ pub record LevelMoves (a : Asked) (shown : Shown) (old new : Level) : Type 0 whe
   pub led : old.outer ≡ [] → IsByFirst a → LevelLed a shown old → LevelLed a shown new
   pub work : level_work a shown new ≤ level_work a shown old
 
-abbrev pub Catches : Asked → Shown → Caught → Level → Level → Type 0
-Catches a shown Ready old new = LevelMoves a shown old new × IsSome new.row
-Catches a shown Ended old new = LevelMoves a shown old new × (still a shown new ≡ [])
-Catches a shown Worked old new = LevelMoves a shown old new × (level_work a shown new < level_work a shown old)
+abbrev pub Catches : Asked → Shown → Step (Unit {0}) → Level → Level → Type 0
+Catches a shown (Row held) old new = LevelMoves a shown old new × IsSome new.row
+Catches a shown End old new = LevelMoves a shown old new × (still a shown new ≡ [])
+Catches a shown Working old new = LevelMoves a shown old new × (level_work a shown new < level_work a shown old)
 
 -- A call of an access was made, whose counts rise by what is counted, or none was.
 abbrev pub Rises : Access → Access → Counts → Counts → Type 0
@@ -85,10 +83,10 @@ pub record Takes (a : Asked) (shown : Shown) (o : Offer) (old new : Stacked) : T
   pub led : IsByFirst a → Led a shown old → Led a shown new
   pub bag : IsPermutation (bag a shown old) (o ∷ bag a shown new)
 
-abbrev pub Moves : Asked → Shown → Moved → Stacked → Stacked → Type 0
-Moves a shown (Gave o) old new = Takes a shown o old new
-Moves a shown Done old new = Kept a shown old new × (bag a shown old ≡ [])
-Moves a shown Moving old new = Kept a shown old new × (loops_work a shown new < loops_work a shown old)
+abbrev pub Moves : Asked → Shown → Step Offer → Stacked → Stacked → Type 0
+Moves a shown (Row o) old new = Takes a shown o old new
+Moves a shown End old new = Kept a shown old new × (bag a shown old ≡ [])
+Moves a shown Working old new = Kept a shown old new × (loops_work a shown new < loops_work a shown old)
 
 -- one of some levels was called
 pub record LevelsStay (a : Asked) (shown : Shown) (place : ℕ) (old new : List Level) : Type 0 where

@@ -13,15 +13,13 @@ use Rattle.rv_access.specs.Opened.{Opened}
 use Rattle.rv_join.specs.declared.places.Asked.{Asked}
 use Rattle.rv_join.specs.declared.gather.Stage.{Stage}
 use Rattle.rv_join.specs.declared.gather.Stage.TheVariants.{AsFound, Gathering, Giving}
-use Rattle.rv_join.specs.declared.plan.PlanStep.{PlanStep}
-use Rattle.rv_join.specs.declared.plan.PlanStep.TheVariants.{Row, End, Working}
+use Rattle.rv_reader.specs.declared.step.Step.{Step}
+use Rattle.rv_reader.specs.declared.step.Step.TheVariants.{Row, Working, End}
 use Rattle.rv_join.specs.Asking.{Asks, CanRun, by_index}
 use Rattle.rv_join.specs.Levels.{Stacked, StackFits, bag, first_of}
 use Rattle.rv_join.specs.Rules.{IsByRules}
 use Rattle.rv_join.specs.Work.{loops_work}
 use Rattle.rv_join.specs.Moves.{Kept, Rises}
-use Rattle.rv_join.specs.declared.stack.Moved.{Moved}
-use Rattle.rv_join.specs.declared.stack.Moved.TheVariants.{Gave, Done, Moving}
 use Rattle.rv_join.specs.Order.{IsByFirst, IsLeastOf, Led, before}
 
 -- What a plan keeps: what it is asked, its open levels, the offers gathered, which stage it is in, and what its calls
@@ -47,7 +45,7 @@ abbrev pub plan_work : Shown → Planned → ℕ
 plan_work shown p = loops_work p.asked shown p.stack
 
 -- Working lowers it; no answer raises it
-abbrev pub WorkTo : PlanStep → ℕ → ℕ → Type 0
+abbrev pub WorkTo : Step Offer → ℕ → ℕ → Type 0
 WorkTo (Row o) old new = new ≤ old
 WorkTo End old new = new ≤ old
 WorkTo Working old new = new < old
@@ -109,12 +107,12 @@ pub record GivesOne (o : Offer) (old new : List Offer) : Type 0 where
   pub least : IsLeastOf o new
 
 -- WHAT A STEP DOES to the rest: one offer goes out, or it stays, or it is empty
-abbrev pub StepsTo : PlanStep → List Offer → List Offer → Type 0
+abbrev pub StepsTo : Step Offer → List Offer → List Offer → Type 0
 StepsTo (Row o) old new = GivesOne o old new
 StepsTo End old new = (old ≡ []) × (new ≡ [])
 StepsTo Working old new = IsPermutation old new
 
-pub record PlanMoves (shown : Shown) (m : PlanStep) (old new : Planned) : Type 0 where
+pub record PlanMoves (shown : Shown) (m : Step Offer) (old new : Planned) : Type 0 where
   pub asked : new.asked ≡ old.asked
   pub step : StepsTo m (plan_rest shown old) (plan_rest shown new)
   pub work : WorkTo m (plan_work shown old) (plan_work shown new)
@@ -138,12 +136,6 @@ pub record LeadsWith (shown : Shown) (p : Planned) : Type 0 where
   pub asks : Asks p.asked [] (query_of p.stack.at.here)
   pub opened : Opened p.asked.race (query_of p.stack.at.here) shown p.asked.cursor 1 p.stack.at.here
   pub counted : AreReads (trace_of p.stack.at.here) p.reads
-
--- a step of the nested loops as the plan's answer
-abbrev pub step_of : Moved → PlanStep
-step_of (Gave o) = Row o
-step_of Done = End
-step_of Moving = Working
 
 -- Gathering.
 
@@ -169,7 +161,7 @@ abbrev pub Taken : Option Offer → List Offer → List Offer → Type 0
 Taken (Some o) old new = old ≡ o ∷ new
 Taken None old new = (old ≡ []) × (new ≡ [])
 
-abbrev pub Gives : PlanStep → List Offer → List Offer → Type 0
+abbrev pub Gives : Step Offer → List Offer → List Offer → Type 0
 Gives (Row o) old new = old ≡ o ∷ new
 Gives End old new = (old ≡ []) × (new ≡ [])
 Gives Working old new = true ≡ false

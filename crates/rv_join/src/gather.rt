@@ -11,10 +11,10 @@ ghost use Rattle.rv_join.specs.Plans.{Gathers, Taken};
 
 use crate::kept::{keep, sort, take};
 use crate::places::Asked;
-use crate::stack::{Moved, Stack};
+use crate::stack::Stack;
 use rv_judge::{Judge, Steps};
 use rv_model::Offer;
-use rv_reader::Reader;
+use rv_reader::{Reader, Step};
 use rv_value::NoMemory;
 use std::alloc::Global;
 use std::marker::Model;
@@ -82,12 +82,12 @@ impl Gathered {
     {
         self.offers.reserve(1)?;
         match stack.advance(alloc, asked, reader, judge, steps)? {
-            Moved::Gave(offer) => {
+            Step::Row(offer) => {
                 keep(&mut self.offers, offer);
                 Ok(false)
             }
-            Moved::Moving => Ok(false),
-            Moved::Done => Ok(true),
+            Step::Working => Ok(false),
+            Step::End => Ok(true),
         }
     }
 

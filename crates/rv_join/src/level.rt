@@ -19,7 +19,7 @@ use crate::places::{Asked, open_item};
 use rv_access::{Access, Over};
 use rv_judge::{Control, Judge, Steps};
 use rv_model::Offer;
-use rv_reader::Reader;
+use rv_reader::{Reader, Step};
 use rv_restrict::ColRef;
 use rv_retrieval::Fg;
 use rv_value::{Duplicate, Items, NoMemory, Record, Value, Values, copy_slice, copy_slice_in};
@@ -68,17 +68,6 @@ impl Room {
         drop(mem::replace(&mut self.rows, outer.into_vec()));
         self.access.keep(here);
     }
-}
-
-/// What a look for a level's next row came to.
-#[derive(Clone, Copy, PartialEq, Eq)]
-pub enum Caught {
-    /// A row is held.
-    Ready,
-    /// The access has ended.
-    Ended,
-    /// There is no row yet.
-    Worked,
 }
 
 /// The number of columns up to the last of these.
@@ -270,7 +259,7 @@ impl Level {
         reader: &R,
         judge: &mut Box<dyn Judge>,
         steps: &mut Steps<R::Ledger>,
-    ) -> Result<Caught, NoMemory>
+    ) -> Result<Step<()>, NoMemory>
         requires can { CanRun _asked.now (R.shown reader.now) }
         requires fits { LevelFits _asked.now (R.shown reader.now) self.old }
         ensures caught { IfOk result (λ c. Catches _asked.now (R.shown reader.now) c self.old self.new) }
@@ -282,16 +271,16 @@ impl Level {
         ensures err { OnErr result (LevelStays _asked.now (R.shown reader.now) self.old self.new) }
     {
         if self.row.is_some() {
-            return Ok(Caught::Ready);
+            return Ok(Step::Row(()));
         }
         match self.here.fg_step(reader, judge, steps)? {
             Fg::Row(record) => {
                 let Record { row: _, values } = record;
                 let _before = self.row.replace(values);
-                Ok(Caught::Ready)
+                Ok(Step::Row(()))
             }
-            Fg::End => Ok(Caught::Ended),
-            Fg::Working => Ok(Caught::Worked),
+            Fg::End => Ok(Step::End),
+            Fg::Working => Ok(Step::Working),
         }
     }
 

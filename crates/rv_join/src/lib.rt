@@ -11,4 +11,4 @@ mod stack;
 mod steps;
 
 pub use places::indexes_over;
-pub use plan::{Plan, PlanStep};
+pub use plan::Plan;

@@ -20,30 +20,19 @@ ghost use Rattle.rv_join.specs.Moves.{Kept, Rises, StackStays, Starts};
 ghost use Rattle.rv_model.specs.Offering.{offers_over};
 ghost use Rattle.rv_join.specs.Work.{row_cost};
 ghost use Rattle.rv_join.specs.Pieces.{StackAwaits, level_at, plan_awaited, plan_pieces, stack_builds, waits};
-ghost use Rattle.rv_join.specs.Plans.{AreReads, Gathers, Gives, HoldsGood, LeadsWith, PlanFits, PlanKept, PlanMoves, RisesAlone, Sorts, numbers_of, plan_rest, plan_trace, plan_work, reads_with, stage_of, step_of};
+ghost use Rattle.rv_join.specs.Plans.{AreReads, Gathers, Gives, HoldsGood, LeadsWith, PlanFits, PlanKept, PlanMoves, RisesAlone, Sorts, numbers_of, plan_rest, plan_trace, plan_work, reads_with, stage_of};
 
 use crate::gather::{Gathered, Stage};
 use crate::places::{Asked, ask, by_index};
-use crate::stack::{Moved, Stack, open};
+use crate::stack::{Stack, open};
 use rv_catalog::{IndexDef, Select};
 use rv_jscan::{Given, PieceId, Sieved, Taken};
 use rv_judge::{Counts, Judge, Steps, Trace};
 use rv_model::Offer;
-use rv_reader::Reader;
+use rv_reader::{Reader, Step};
 use rv_value::NoMemory;
 use std::alloc::Global;
 use std::marker::Model;
-
-/// What a step of a plan answers.
-#[derive(Drop)]
-pub enum PlanStep {
-    /// A combination: the values by which it is ordered, and those that it returns.
-    Row(Offer),
-    /// Nothing is left.
-    End,
-    /// No combination yet; the rest is as before.
-    Working,
-}
 
 /// The plan of a cursor: nested loops of up to four retrievals in FROM order.
 #[derive(Drop)]
@@ -88,16 +77,6 @@ fn first_stage(alloc: Global, select: &Select, indexes: &[IndexDef]) -> Result<S
         Ok(Stage::AsFound)
     } else {
         Ok(Stage::Gathering)
-    }
-}
-
-fn answer(moved: Moved) -> PlanStep
-    ensures { result ≡ step_of moved }
-{
-    match moved {
-        Moved::Gave(offer) => PlanStep::Row(offer),
-        Moved::Done => PlanStep::End,
-        Moved::Moving => PlanStep::Working,
     }
 }
 
@@ -217,7 +196,7 @@ impl Plan {
         reader: &R,
         judge: &mut Box<dyn Judge>,
         steps: &mut Steps<R::Ledger>,
-    ) -> Result<PlanStep, NoMemory>
+    ) -> Result<Step<Offer>, NoMemory>
         requires fits { HoldsGood (R.shown reader.now) self.old }
         ensures step { IfOk result (λ m. PlanMoves (R.shown reader.now) m self.old self.new) }
         ensures holds { HoldsGood (R.shown reader.now) self.new }
@@ -232,14 +211,11 @@ impl Plan {
         ensures err { OnErr result (PlanKept (R.shown reader.now) self.old self.new) }
     {
         match self.stage() {
-            Stage::AsFound => {
-                let moved = self
-                    .stack
-                    .advance(self.alloc, &self.asked, reader, judge, steps)?;
-                Ok(answer(moved))
-            }
+            Stage::AsFound => self
+                .stack
+                .advance(self.alloc, &self.asked, reader, judge, steps),
             Stage::Gathering => self.gather_step(reader, judge, steps),
-            Stage::Giving => self.give_step(),
+            Stage::Giving => self.give_next(),
         }
     }
 
@@ -286,14 +262,14 @@ impl Plan {
     }
 
     /// Gives the next of the offers that are sorted.
-    pub(crate) fn give_next(&mut self) -> Result<PlanStep, NoMemory>
+    pub(crate) fn give_next(&mut self) -> Result<Step<Offer>, NoMemory>
         ensures given { IfOk result (λ m. Gives m self.old.gathered self.new.gathered) }
         ensures same { self.new ≡ record self.old { gathered = self.new.gathered } }
         ensures err { OnErr result (self.new ≡ self.old) }
     {
         match self.gathered.take() {
-            Some(offer) => Ok(PlanStep::Row(offer)),
-            None => Ok(PlanStep::End),
+            Some(offer) => Ok(Step::Row(offer)),
+            None => Ok(Step::End),
         }
     }
 

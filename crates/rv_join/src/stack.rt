@@ -23,28 +23,17 @@ ghost use Rattle.rv_access.specs.Stepping.{SameCourse};
 ghost use Rattle.rv_access.specs.Opened.{Opened, is_race, life_of};
 ghost use Rattle.rv_judge.specs.Tracing.{CountsAll, CountsRise, SameCounts};
 
-use crate::level::{Caught, Level, Room};
+use crate::level::{Level, Room};
 use crate::places::{Asked, open_item};
 use rv_access::Over;
 use rv_jscan::{Given, Sieved, Taken};
 use rv_judge::{Judge, Steps, Trace};
 use rv_model::Offer;
-use rv_reader::Reader;
+use rv_reader::{Reader, Step};
 use rv_value::{Items, NoMemory};
 use std::alloc::Global;
 use std::marker::Model;
 use std::mem;
-
-/// What a step of nested loops came to.
-#[derive(Drop)]
-pub enum Moved {
-    /// A combination was given.
-    Gave(Offer),
-    /// Nothing is left.
-    Done,
-    /// No combination yet.
-    Moving,
-}
 
 /// The open levels, those above the innermost one first, and the count of retrievals opened. The memory of the level that
 /// ended last is kept, so that the next inner one is opened in it; contracts do not see it.
@@ -257,7 +246,7 @@ impl Stack {
         reader: &R,
         asked: &Asked,
         steps: &mut Steps<R::Ledger>,
-    ) -> Result<Moved, NoMemory>
+    ) -> Result<Step<Offer>, NoMemory>
         requires can { CanRun asked.now (R.shown reader.now) }
         requires fits { StackFits asked.now (R.shown reader.now) self.old }
         requires some { IsSome self.old.at.row }
@@ -271,12 +260,12 @@ impl Stack {
         let inner = self.inner(alloc, reader, asked, &mut room, steps)?;
         drop(mem::replace(&mut self.room, room));
         self.descend(inner)?;
-        Ok(Moved::Moving)
+        Ok(Step::Working)
     }
 
     /// Gives what the row that is held offers.
     #[tactic(auto, using(crate::proofs::Stacking::delivers, crate::proofs::Accounting::used_first))]
-    fn deliver(&mut self, alloc: Global, asked: &Asked) -> Result<Moved, NoMemory>
+    fn deliver(&mut self, alloc: Global, asked: &Asked) -> Result<Step<Offer>, NoMemory>
         requires some { IsSome self.old.at.row }
         requires last { is_last asked.now self.old ≡ true }
         ensures moves { (shown : Shown) → StackFits asked.now shown self.old → IfOk result (λ m. Moves asked.now shown m self.old self.new) }
@@ -286,7 +275,7 @@ impl Stack {
     {
         let offer = self.offer(alloc, asked)?;
         self.drop_row();
-        Ok(Moved::Gave(offer))
+        Ok(Step::Row(offer))
     }
 
     /// Uses the row that is held: over the last FROM item it gives a combination, else the next item's retrieval is
@@ -297,7 +286,7 @@ impl Stack {
         reader: &R,
         asked: &Asked,
         steps: &mut Steps<R::Ledger>,
-    ) -> Result<Moved, NoMemory>
+    ) -> Result<Step<Offer>, NoMemory>
         requires can { CanRun asked.now (R.shown reader.now) }
         requires fits { StackFits asked.now (R.shown reader.now) self.old }
         requires some { IsSome self.old.at.row }
@@ -317,17 +306,17 @@ impl Stack {
 
     /// The innermost level is at its end: goes on in the one above.
     #[tactic(auto, using(crate::proofs::Stacking::climbs, crate::proofs::Stacking::ends, crate::proofs::OneItem::climbed_first))]
-    fn end(&mut self) -> Moved
+    fn end(&mut self) -> Step<Offer>
         ensures moves { (a : TheAsked) (shown : Shown) → StackFits a shown self.old → still a shown self.old.at ≡ [] → Moves a shown result self.old self.new }
         ensures alone { self.old.above ≡ [] → self.new ≡ self.old }
         ensures first { first_of self.new ≡ first_of self.old }
-        ensures done { self.old.above ≡ [] → result ≡ Moved.Done }
+        ensures done { self.old.above ≡ [] → result ≡ Step.End }
         ensures goes { (a : TheAsked) (shown : Shown) (c : TheCounts) → GoesOn a shown c c self.old self.new }
     {
         if self.climb() {
-            Moved::Moving
+            Step::Working
         } else {
-            Moved::Done
+            Step::End
         }
     }
 
@@ -341,7 +330,7 @@ impl Stack {
         reader: &R,
         judge: &mut Box<dyn Judge>,
         steps: &mut Steps<R::Ledger>,
-    ) -> Result<Moved, NoMemory>
+    ) -> Result<Step<Offer>, NoMemory>
         requires can { CanRun asked.now (R.shown reader.now) }
         requires fits { StackFits asked.now (R.shown reader.now) self.old }
         ensures moves { IfOk result (λ m. Moves asked.now (R.shown reader.now) m self.old self.new) }
@@ -355,9 +344,9 @@ impl Stack {
         ensures err { OnErr result (Kept asked.now (R.shown reader.now) self.old self.new) }
     {
         match self.at.ready(asked, reader, judge, steps)? {
-            Caught::Worked => Ok(Moved::Moving),
-            Caught::Ended => Ok(self.end()),
-            Caught::Ready => self.use_row(alloc, reader, asked, steps),
+            Step::Working => Ok(Step::Working),
+            Step::End => Ok(self.end()),
+            Step::Row(()) => self.use_row(alloc, reader, asked, steps),
         }
     }
 }

@@ -13,10 +13,11 @@ ghost use Rattle.rv_join.specs.Pieces.{GivesPiece, TakesAwaited, plan_awaited, p
 ghost use Rattle.rv_join.specs.Plans.{HoldsGood, PlanFits, PlanKept, PlanMoves, PlanStays, RisesAlone, plan_trace, plan_work};
 
 use crate::gather::Stage;
-use crate::plan::{Plan, PlanStep};
+use crate::plan::Plan;
 use rv_jscan::{Given, Sieved, Taken};
 use rv_judge::{Judge, Steps};
-use rv_reader::Reader;
+use rv_model::Offer;
+use rv_reader::{Reader, Step};
 use rv_value::NoMemory;
 
 impl Plan {
@@ -27,7 +28,7 @@ impl Plan {
         reader: &R,
         judge: &mut Box<dyn Judge>,
         steps: &mut Steps<R::Ledger>,
-    ) -> Result<PlanStep, NoMemory>
+    ) -> Result<Step<Offer>, NoMemory>
         requires fits { HoldsGood (R.shown reader.now) self.old }
         requires stage { self.old.stage ≡ Stage.Gathering }
         ensures step { IfOk result (λ m. PlanMoves (R.shown reader.now) m self.old self.new) }
@@ -46,21 +47,8 @@ impl Plan {
             self.sort()?;
             self.give_next()
         } else {
-            Ok(PlanStep::Working)
+            Ok(Step::Working)
         }
-    }
-
-    /// A step where the offers are sorted.
-    #[tactic(auto, using(crate::proofs::Planning::given_step, crate::proofs::OneItem::given_spends))]
-    pub(crate) fn give_step(&mut self) -> Result<PlanStep, NoMemory>
-        requires stage { self.old.stage ≡ Stage.Giving }
-        ensures step { (shown : Shown) → HoldsGood shown self.old → IfOk result (λ m. PlanMoves shown m self.old self.new) }
-        ensures holds { (shown : Shown) → HoldsGood shown self.old → HoldsGood shown self.new }
-        ensures spends { (c : TheCounts) (n : ℕ) → IfOk result (λ m. PlanSpends m c c n n) }
-        ensures same { self.new ≡ record self.old { gathered = self.new.gathered } }
-        ensures err { OnErr result (self.new ≡ self.old) }
-    {
-        self.give_next()
     }
 
     /// Gives a combination of the rest, works on, or ends.
@@ -73,7 +61,7 @@ impl Plan {
         reader: &R,
         judge: &mut Box<dyn Judge>,
         steps: &mut Steps<R::Ledger>,
-    ) -> Result<PlanStep, NoMemory>
+    ) -> Result<Step<Offer>, NoMemory>
         requires fits { PlanFits (R.shown reader.now) self.old }
         ensures counts { CountsRise (plan_trace self.old) (plan_trace self.new) steps.old steps.new }
         ensures stays { would judge.new ≡ would judge.old }

@@ -5,7 +5,7 @@ use Rattle.rv_judge.specs.Verdicts.{Ruling}
 use Rattle.rv_model.specs.declared.state.Offer.{Offer}
 use Rattle.rv_reader.specs.Shown.{Shown}
 use Rattle.rv_join.specs.Plans.{plan_work}
-use Rattle.rv_join.specs.declared.plan.PlanStep.TheVariants.{Working}
+use Rattle.rv_reader.specs.declared.step.Step.TheVariants.{Working}
 use Rattle.rv_cursor.specs.Moves.{Beside, EndsBeside, FetchMoves, LacksBeside, Ruled, StepsBack, StepsBeside, Turn, TurnsOn}
 
 same_work : (shown : Shown) (old new : Ruled) → new ≡ old → plan_work shown new.plan ≤ plan_work shown old.plan

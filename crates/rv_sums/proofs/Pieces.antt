@@ -5,8 +5,8 @@ use Rattle.rv_judge.specs.Verdicts.{Ruling}
 use Rattle.rv_lang.specs.declared.reply.Reply.{Reply}
 use Rattle.rv_model.specs.declared.state.Offer.{Offer}
 use Rattle.rv_reader.specs.Shown.{Shown}
-use Rattle.rv_join.specs.declared.plan.PlanStep.{PlanStep}
-use Rattle.rv_join.specs.declared.plan.PlanStep.TheVariants.{Row, End, Working}
+use Rattle.rv_reader.specs.declared.step.Step.{Step}
+use Rattle.rv_reader.specs.declared.step.Step.TheVariants.{Row, Working, End}
 use Rattle.rv_cursor.specs.Fetches.{lost_in}
 use Rattle.rv_cursor.specs.Moves.{Beside, BesideBy, EndsBeside, FetchMoves, LacksBeside, Move, Ruled, StepsBack, StepsBacks, StepsBeside, Turn, TurnMoves, TurnsOn}
 use Rattle.rv_cursor.specs.Moves.Move.{Front, Take, Give}
@@ -61,12 +61,12 @@ ends done most would shown last new (inr l) = record { moves = Take ∷ []; made
 all_beside : (most : ℕ) (would : ℕ → Facts → Ruling) (shown : Shown) (old new : Ruled) → Beside most would shown old new → TakesGive 1 would shown old new
 all_beside most would shown old new b = on 0 1 would shown old b.last new (steps_beside b.done would shown old b.last b.steps) (ends b.done most would shown b.last new b.ends)
 
-beside_by : (step : PlanStep) (most : ℕ) (would : ℕ → Facts → Ruling) (shown : Shown) (old new : Ruled) → BesideBy step most would shown old new → TakesGive 1 would shown old new
+beside_by : (step : Step Offer) (most : ℕ) (would : ℕ → Facts → Ruling) (shown : Shown) (old new : Ruled) → BesideBy step most would shown old new → TakesGive 1 would shown old new
 beside_by (Row o) most would shown old new b = all_beside most would shown old new b
 beside_by End most would shown old new same = raise 0 1 would shown old new (omega arith) (nothing would shown old new same)
 beside_by Working most would shown old new b = all_beside most would shown old new b
 
-turn : (step : PlanStep) (most : ℕ) (would : ℕ → Facts → Ruling) (shown : Shown) (old new : Ruled) → Turn step most would shown old new → TakesGive 1 would shown old new
+turn : (step : Step Offer) (most : ℕ) (would : ℕ → Facts → Ruling) (shown : Shown) (old new : Ruled) → Turn step most would shown old new → TakesGive 1 would shown old new
 turn step most would shown old new t = on 0 1 would shown old t.stepped new (record { moves = Front ∷ []; made = (old, refl, (step, t.front)); none = refl; pieces = omega arith }) (beside_by step most would shown t.stepped new t.beside)
 
 turns : (n most : ℕ) (would : ℕ → Facts → Ruling) (shown : Shown) (old new : Ruled) → TurnsOn n most would shown old new → TakesGive n would shown old new

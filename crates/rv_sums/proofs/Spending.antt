@@ -12,8 +12,9 @@ use Rattle.rv_access.specs.declared.access.Access.{Access}
 use Rattle.rv_join.specs.Alone.{CallsOnce, IsAlone, PlanSpends, Spends, plan_effort, plan_life}
 use Rattle.rv_join.specs.Pieces.{waiting}
 use Rattle.rv_join.specs.Plans.{Planned, plan_trace}
-use Rattle.rv_join.specs.declared.plan.PlanStep.{PlanStep}
-use Rattle.rv_join.specs.declared.plan.PlanStep.TheVariants.{Row, End, Working}
+use Rattle.rv_reader.specs.declared.step.Step.{Step}
+use Rattle.rv_model.specs.declared.state.Offer.{Offer}
+use Rattle.rv_reader.specs.declared.step.Step.TheVariants.{Row, Working, End}
 use Rattle.rv_cursor.specs.Fetches.{lost_in, lost_of}
 use Rattle.rv_cursor.specs.Left.{seen_by}
 use Rattle.rv_cursor.specs.Moves.{Move, MovesBy, MovesByAll, Ruled, StepsFront, TakesOut, ruled}
@@ -49,7 +50,7 @@ calls_one would state after shown c d old new (inr none) = inl none.1
 low : (a b : ℕ) → a < b → a ≤ b
 low a b less = omega (arith, less)
 
-step_spends : (m : PlanStep) (c d : Counts) (e f : ℕ) → PlanSpends m c d e f → Spends c d e f × (f ≤ e)
+step_spends : (m : Step Offer) (c d : Counts) (e f : ℕ) → PlanSpends m c d e f → Spends c d e f × (f ≤ e)
 step_spends (Row o) c d e f spends = spends
 step_spends End c d e f spends = spends
 step_spends Working c d e f spends = (spends.0, low f e spends.1)
@@ -73,7 +74,7 @@ take_sum a b h = omega (arith, h)
 give_sum : (was now e f : ℕ) → now ≤ was + 0 → f < e → now + f + 1 ≤ was + e + 0 + 0
 give_sum was now e f same less = omega (arith, same, less)
 
-front_spends : (step : PlanStep) (would : ℕ → Facts → Ruling) (shown : Shown) (old new : Ruled) → StepsFront (Some step) would shown old new → IsAlone old.plan → spent shown new.plan ≤ spent shown old.plan + 0
+front_spends : (step : Step Offer) (would : ℕ → Facts → Ruling) (shown : Shown) (old new : Ruled) → StepsFront (Some step) would shown old new → IsAlone old.plan → spent shown new.plan ≤ spent shown old.plan + 0
 front_spends step would shown old new front one =
     let spends = step_spends step front.before front.after (plan_effort shown old.plan) (plan_effort shown new.plan) (front.spends one) in
     let read = calls_one would old.judge new.judge shown front.before front.after old.plan.stack.at.here new.plan.stack.at.here (front.once one).calls in

@@ -5,11 +5,11 @@ ghost use Rattle.rv_model.specs.declared.state.Offer.{Offer as OneOffer};
 ghost use Rattle.rv_join.specs.Plans.{PlanFits, plan_rest};
 ghost use Rattle.try_retrievals.specs.Planning.{Gives, Stays};
 
-use rv_join::{Plan, PlanStep};
+use rv_join::Plan;
 use rv_jscan::{Piece, Taken, sieve};
 use rv_judge::{Judge, Steps};
 use rv_model::Offer;
-use rv_reader::Reader;
+use rv_reader::{Reader, Step};
 use rv_value::NoMemory;
 use std::alloc::Global;
 
@@ -107,12 +107,12 @@ fn forward<R: Reader>(
     ensures ends { result ≡ Ok true → plan_rest (R.shown reader.now) plan.new ≡ [] }
 {
     match plan.step(reader, judge, steps)? {
-        PlanStep::Row(offer) => {
+        Step::Row(offer) => {
             offers.push(offer)?;
             Ok(false)
         }
-        PlanStep::Working => Ok(false),
-        PlanStep::End => Ok(true),
+        Step::Working => Ok(false),
+        Step::End => Ok(true),
     }
 }
 

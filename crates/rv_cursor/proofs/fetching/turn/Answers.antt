@@ -1,6 +1,6 @@
 use Rattle.std.proofs.Common.{IsSome, ◌∙◌, refl, subst, sym}
 use Rattle.rv_value.proofs.Tests.{not_some}
-use Rattle.rv_join.specs.declared.plan.PlanStep.TheVariants.{End, Row, Working}
+use Rattle.rv_reader.specs.declared.step.Step.TheVariants.{Row, Working, End}
 use Rattle.rv_cursor.specs.Left.{seen_by}
 use Rattle.rv_cursor.specs.Moves.Move.{Lost}
 use Rattle.rv_cursor.proofs.Holding.{kept_stays, nearer_beside, none_left, none_moved, row_stays, stays_itself, stays_on}

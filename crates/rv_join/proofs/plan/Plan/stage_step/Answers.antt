@@ -1,8 +1,8 @@
 use Rattle.std.proofs.Common.{refl, sym, ◌∙◌}
 use Rattle.rv_value.proofs.Lists.{on_ok}
 use Rattle.rv_join.specs.Plans.{Planned}
-use Rattle.rv_join.proofs.OneItem.{fetches_same, moved_spends}
-use Rattle.rv_join.proofs.Planning.{found_good, found_holds, found_moves, not_given}
+use Rattle.rv_join.proofs.OneItem.{fetches_same, given_spends, moved_spends}
+use Rattle.rv_join.proofs.Planning.{found_failed, found_fits, found_step, given_fits, given_step, not_given}
 use Rattle.rv_join.proofs.plan.Plan.stage_step.Goals as goal
 
 pub advance-requires : goal.advance-requires
@@ -10,68 +10,61 @@ advance-requires g c =
     let holds = rw (← c.self.view_is) at c.requires.fits in
     record { can = holds.can; fits = holds.stack }
 
-pub returns-in_ok-moved-in-AsFound-clause-step : goal.returns-in_ok-moved-in-AsFound-clause-step
-returns-in_ok-moved-in-AsFound-clause-step g c =
+pub returns-in-AsFound-clause-step : goal.returns-in-AsFound-clause-step
+returns-in-AsFound-clause-step g c =
     let old : Planned = record { asked = c.self.inside.asked; stack = c.self.inside.stack; gathered = c.self.inside.gathered; stage = c.self.inside.stage; reads = c.self.inside.reads } in
     let shown = g.R.Reader.shown c.args.reader.now in
     let holds = rw (← c.self.view_is) at c.requires.fits in
     let found = rw (← c.self.view_is) at (sym c.stage.ensures ∙ c.in-AsFound.is) in
-    rw (← c.self.view_is, c.answer.ensures) (found_moves shown c.in_ok-moved-in-AsFound.moved old (record old { stack = c.advance.new.self }) holds found c.in_ok-moved-in-AsFound.ensures.moves refl)
+    rw (← c.self.view_is) (found_step c.advance.result shown old (record old { stack = c.advance.new.self }) holds found c.advance.ensures.moves refl)
 
-pub returns-in_ok-moved-in-AsFound-clause-holds : goal.returns-in_ok-moved-in-AsFound-clause-holds
-returns-in_ok-moved-in-AsFound-clause-holds g c =
+pub returns-in-AsFound-clause-holds : goal.returns-in-AsFound-clause-holds
+returns-in-AsFound-clause-holds g c =
     let old : Planned = record { asked = c.self.inside.asked; stack = c.self.inside.stack; gathered = c.self.inside.gathered; stage = c.self.inside.stage; reads = c.self.inside.reads } in
     let shown = g.R.Reader.shown c.args.reader.now in
     let holds = rw (← c.self.view_is) at c.requires.fits in
     let found = rw (← c.self.view_is) at (sym c.stage.ensures ∙ c.in-AsFound.is) in
-    found_good shown c.in_ok-moved-in-AsFound.moved old (record old { stack = c.advance.new.self }) holds found c.in_ok-moved-in-AsFound.ensures.moves refl
+    found_fits c.advance.result shown old (record old { stack = c.advance.new.self }) holds found c.advance.ensures.moves c.advance.ensures.err refl
 
-pub returns-in_ok-moved-in-AsFound-clause-alone : goal.returns-in_ok-moved-in-AsFound-clause-alone
-returns-in_ok-moved-in-AsFound-clause-alone g c = rw (← c.self.view_is) c.advance.ensures.alone
-
-pub returns-in_ok-moved-in-AsFound-clause-asks : goal.returns-in_ok-moved-in-AsFound-clause-asks
-returns-in_ok-moved-in-AsFound-clause-asks g c = rw (← c.self.view_is) c.advance.ensures.asks
-
-pub returns-in_ok-moved-in-AsFound-clause-once : goal.returns-in_ok-moved-in-AsFound-clause-once
-returns-in_ok-moved-in-AsFound-clause-once g c = rw (← c.self.view_is) c.advance.ensures.once
-
-pub returns-in_ok-moved-in-AsFound-clause-spends : goal.returns-in_ok-moved-in-AsFound-clause-spends
-returns-in_ok-moved-in-AsFound-clause-spends g c = rw (← c.self.view_is, c.answer.ensures) (λ one. moved_spends c.in_ok-moved-in-AsFound.moved _ _ _ _ (c.in_ok-moved-in-AsFound.ensures.spends one))
-
-pub returns-in_ok-moved-in-AsFound-clause-fetches : goal.returns-in_ok-moved-in-AsFound-clause-fetches
-returns-in_ok-moved-in-AsFound-clause-fetches g c = rw (← c.self.view_is) c.in_ok-moved-in-AsFound.ensures.fetches
-
-pub returns-in_ok-moved-in-AsFound-clause-plans : goal.returns-in_ok-moved-in-AsFound-clause-plans
-returns-in_ok-moved-in-AsFound-clause-plans g c = rw (← c.self.view_is) c.advance.ensures.plans
-
-pub returns-in_ok-moved-in-AsFound-clause-reads : goal.returns-in_ok-moved-in-AsFound-clause-reads
-returns-in_ok-moved-in-AsFound-clause-reads g c = rw (← c.self.view_is) refl
-
-pub returns-in_err-moved-in-AsFound-clause-holds : goal.returns-in_err-moved-in-AsFound-clause-holds
-returns-in_err-moved-in-AsFound-clause-holds g c =
+pub returns-in-AsFound-clause-err : goal.returns-in-AsFound-clause-err
+returns-in-AsFound-clause-err g c =
     let old : Planned = record { asked = c.self.inside.asked; stack = c.self.inside.stack; gathered = c.self.inside.gathered; stage = c.self.inside.stage; reads = c.self.inside.reads } in
     let shown = g.R.Reader.shown c.args.reader.now in
-    let holds = rw (← c.self.view_is) at c.requires.fits in
     let found = rw (← c.self.view_is) at (sym c.stage.ensures ∙ c.in-AsFound.is) in
-    found_holds shown old (record old { stack = c.advance.new.self }) holds found c.in_err-moved-in-AsFound.ensures.err refl
+    rw (← c.self.view_is) (found_failed c.advance.result shown old (record old { stack = c.advance.new.self }) found c.advance.ensures.err refl)
 
-pub returns-in_err-moved-in-AsFound-clause-alone : goal.returns-in_err-moved-in-AsFound-clause-alone
-returns-in_err-moved-in-AsFound-clause-alone g c = rw (← c.self.view_is) c.advance.ensures.alone
+pub returns-in-AsFound-clause-spends : goal.returns-in-AsFound-clause-spends
+returns-in-AsFound-clause-spends g c = rw (← c.self.view_is) (λ one. moved_spends c.advance.result _ _ _ _ (c.advance.ensures.spends one))
 
-pub returns-in_err-moved-in-AsFound-clause-asks : goal.returns-in_err-moved-in-AsFound-clause-asks
-returns-in_err-moved-in-AsFound-clause-asks g c = rw (← c.self.view_is) c.advance.ensures.asks
+pub returns-in-AsFound-clause-alone : goal.returns-in-AsFound-clause-alone
+returns-in-AsFound-clause-alone g c = rw (← c.self.view_is) c.advance.ensures.alone
 
-pub returns-in_err-moved-in-AsFound-clause-once : goal.returns-in_err-moved-in-AsFound-clause-once
-returns-in_err-moved-in-AsFound-clause-once g c = rw (← c.self.view_is) c.advance.ensures.once
+pub returns-in-AsFound-clause-asks : goal.returns-in-AsFound-clause-asks
+returns-in-AsFound-clause-asks g c = rw (← c.self.view_is) c.advance.ensures.asks
 
-pub returns-in_err-moved-in-AsFound-clause-plans : goal.returns-in_err-moved-in-AsFound-clause-plans
-returns-in_err-moved-in-AsFound-clause-plans g c = rw (← c.self.view_is) c.advance.ensures.plans
+pub returns-in-AsFound-clause-once : goal.returns-in-AsFound-clause-once
+returns-in-AsFound-clause-once g c = rw (← c.self.view_is) c.advance.ensures.once
 
-pub returns-in_err-moved-in-AsFound-clause-reads : goal.returns-in_err-moved-in-AsFound-clause-reads
-returns-in_err-moved-in-AsFound-clause-reads g c = rw (← c.self.view_is) refl
+pub returns-in-AsFound-clause-fetches : goal.returns-in-AsFound-clause-fetches
+returns-in-AsFound-clause-fetches g c = rw (← c.self.view_is) c.advance.ensures.fetches
+
+pub returns-in-AsFound-clause-plans : goal.returns-in-AsFound-clause-plans
+returns-in-AsFound-clause-plans g c = rw (← c.self.view_is) c.advance.ensures.plans
+
+pub returns-in-AsFound-clause-stays : goal.returns-in-AsFound-clause-stays
+returns-in-AsFound-clause-stays g c = c.advance.ensures.stays
+
+pub returns-in-AsFound-clause-reads : goal.returns-in-AsFound-clause-reads
+returns-in-AsFound-clause-reads g c = rw (← c.self.view_is) refl
+
+pub returns-in-Giving-clause-step : goal.returns-in-Giving-clause-step
+returns-in-Giving-clause-step g c = given_step c.give_next.result (g.R.Reader.shown c.args.reader.now) c.args.self.now c.give_next.new.self c.requires.fits (sym c.stage.ensures ∙ c.in-Giving.is) c.give_next.ensures.given c.give_next.ensures.same
+
+pub returns-in-Giving-clause-holds : goal.returns-in-Giving-clause-holds
+returns-in-Giving-clause-holds g c = given_fits c.give_next.result (g.R.Reader.shown c.args.reader.now) c.args.self.now c.give_next.new.self c.requires.fits (sym c.stage.ensures ∙ c.in-Giving.is) c.give_next.ensures.given c.give_next.ensures.err c.give_next.ensures.same
 
 pub returns-in-Giving-clause-fetches : goal.returns-in-Giving-clause-fetches
-returns-in-Giving-clause-fetches g c = λ one. on_ok c.give_step.result _ (fetches_same (g.R.Reader.shown c.args.reader.now) c.args.steps.now c.args.self.now c.give_step.new.self c.give_step.ensures.same)
+returns-in-Giving-clause-fetches g c = λ one. on_ok c.give_next.result _ (fetches_same (g.R.Reader.shown c.args.reader.now) c.args.steps.now c.args.self.now c.give_next.new.self c.give_next.ensures.same)
 
 pub returns-in-Giving-clause-err : goal.returns-in-Giving-clause-err
-returns-in-Giving-clause-err g c = not_given c.give_step.result (g.R.Reader.shown c.args.reader.now) c.args.self.now c.give_step.new.self c.give_step.ensures.err
+returns-in-Giving-clause-err g c = not_given c.give_next.result (g.R.Reader.shown c.args.reader.now) c.args.self.now c.give_next.new.self c.give_next.ensures.err
