@@ -263,21 +263,6 @@ impl Stack {
         Ok(Step::Working)
     }
 
-    /// Gives what the row that is held offers.
-    #[tactic(auto, using(crate::proofs::Stacking::delivers, crate::proofs::Accounting::used_first))]
-    fn deliver(&mut self, alloc: Global, asked: &Asked) -> Result<Step<Offer>, NoMemory>
-        requires some { IsSome self.old.at.row }
-        requires last { is_last asked.now self.old ≡ true }
-        ensures moves { (shown : Shown) → StackFits asked.now shown self.old → IfOk result (λ m. Moves asked.now shown m self.old self.new) }
-        ensures same { (first_of self.new).here ≡ (first_of self.old).here }
-        ensures used { OnOk result (self.new ≡ used self.old) }
-        ensures err { OnErr result (self.new ≡ self.old) }
-    {
-        let offer = self.offer(alloc, asked)?;
-        self.drop_row();
-        Ok(Step::Row(offer))
-    }
-
     /// Uses the row that is held: over the last FROM item it gives a combination, else the next item's retrieval is
     /// opened over it.
     fn use_row<R: Reader>(
@@ -298,7 +283,9 @@ impl Stack {
         ensures err { OnErr result (self.new ≡ self.old) }
     {
         if self.is_last(asked) {
-            self.deliver(alloc, asked)
+            let offer = self.offer(alloc, asked)?;
+            self.drop_row();
+            Ok(Step::Row(offer))
         } else {
             self.open_inner(alloc, reader, asked, steps)
         }
