@@ -1,5 +1,5 @@
 -- What a plan keeps at each call: what its levels keep, and over one FROM item the counts.
-use Rattle.std.proofs.Common.{◌≡◌, ℕ, ◌+◌, List, [], ◌∷◌, length, Result, Ok, Err, IfOk, OnErr, refl, ap, sym, ◌∙◌, subst, zero, suc, slice_index_or, le_refl}
+use Rattle.std.proofs.Common.{◌≡◌, Option, ℕ, ◌+◌, List, [], ◌∷◌, length, Result, Ok, Err, IfOk, OnErr, refl, ap, sym, ◌∙◌, subst, zero, suc, slice_index_or, le_refl}
 use Rattle.rv_judge.specs.declared.counting.Counts.{Counts}
 use Rattle.rv_judge.specs.declared.events.Trace.{Trace}
 use Rattle.rv_reader.specs.Shown.{Shown}
@@ -7,7 +7,12 @@ use Rattle.rv_judge.specs.Runs.{Allowed}
 use Rattle.rv_judge.proofs.Allowing.{retold}
 use Rattle.rv_retrieval.specs.Runs.{indexes_asked}
 use Rattle.rv_judge.specs.Tracing.{SameCounts}
+use Rattle.rv_jscan.specs.declared.jscan.Given.{Given}
+use Rattle.rv_jscan.specs.declared.jscan.Given.TheVariants.{Accepted, Stale}
+use Rattle.rv_jscan.specs.declared.piece.PieceId.{PieceId}
+use Rattle.rv_jscan.specs.Pieces.{Pieced}
 use Rattle.rv_access.specs.Accesses.{AccessFits, SamePlans, query_of, trace_of}
+use Rattle.rv_access.specs.Given.{Answers, AwaitsPiece, awaited}
 use Rattle.rv_access.proofs.Accesses.{allowed}
 use Rattle.rv_join.specs.declared.places.Asked.{Asked}
 use Rattle.rv_join.specs.declared.level.Level.{Level}
@@ -16,11 +21,15 @@ use Rattle.rv_model.specs.declared.state.Offer.{Offer}
 use Rattle.rv_join.specs.Asking.{item_at}
 use Rattle.rv_join.specs.Levels.{AllFit, LevelFits, Stacked, StackFits, first_in, first_of}
 use Rattle.rv_join.specs.Moves.{Rises, StackStays}
-use Rattle.rv_join.specs.Pieces.{level_at}
+use Rattle.rv_join.specs.Pieces.{GivesPiece, level_at, waits}
 use Rattle.rv_join.specs.Plans.{AreReads, HoldsGood, PlanFits, PlanKept, PlanMoves, PlanStays, Planned, RisesAlone, numbers_of, plan_trace, rest_at}
 use Rattle.rv_join.specs.Work.{loops_work}
 use Rattle.rv_join.proofs.Accounting.{alone_above}
 use Rattle.rv_join.proofs.Numbers.{rules_stay}
+
+-- a plan whose stack is the same
+pub with_stack : (old : Planned) (stack : Stacked) → stack ≡ old.stack → record old { stack = stack } ≡ old
+with_stack old stack same = ap (λ (s : Stacked). record old { stack = s }) same
 
 -- The retrieval of a place.
 
@@ -93,6 +102,17 @@ stays_still shown old new stays same = rw same (record {
   rest_same = ap (rest_at old.stage old.gathered) stays.bag;
   work = stays.work;
 })
+
+-- a piece that is given to a level of the stack
+
+pub gives_piece : {E : Type 0} (r : Result Given E) (old : Planned) (stack : Stacked) (piece : Pieced) (at : ℕ) → at ≡ waits old.stack → IfOk r (λ g. Answers (level_at old.stack at).here piece g (level_at stack at).here) → ((asked : PieceId) (now : Option PieceId) → r ≡ Ok (Stale asked now) → stack ≡ old.stack) → IfOk r (λ g. GivesPiece old piece g (record old { stack = stack }))
+gives_piece (Ok Accepted) old stack piece at here answers stale = subst (λ i. AwaitsPiece (level_at old.stack i).here piece) here answers
+gives_piece (Ok (Stale asked now)) old stack piece at here answers stale = subst (λ i. ¬ AwaitsPiece (level_at old.stack i).here piece × (asked ≡ piece.id) × (now ≡ awaited (level_at old.stack i).here) × (record old { stack = stack } ≡ old)) here (answers.0, answers.1, answers.2, with_stack old stack (stale asked now refl))
+gives_piece (Err e) old stack piece at here answers stale = tt
+
+pub given_none : {X E : Type 0} (r : Result X E) (old : Planned) (stack : Stacked) → OnErr r (stack ≡ old.stack) → OnErr r (record old { stack = stack } ≡ old)
+given_none (Ok x) old stack same = tt
+given_none (Err e) old stack same = with_stack old stack same
 
 pub stays_counted : (shown : Shown) (old mid new : Planned) (reads : Counts) → PlanStays shown old mid → new ≡ record mid { reads = reads } → PlanStays shown old new
 stays_counted shown old mid new reads stays same = rw same (record { asked = stays.asked; rest_same = stays.rest_same; work = stays.work })

@@ -6,21 +6,19 @@ ghost use Rattle.rv_reader.specs.Shown.{Shown};
 ghost use Rattle.rv_access.specs.Accesses.{AccessFits, SamePlans, Settled, fetches_left, held_of, query_of, trace_of};
 ghost use Rattle.rv_access.specs.Stepping.{SameCourse};
 ghost use Rattle.rv_access.specs.Opened.{is_race};
-ghost use Rattle.rv_access.specs.Given.{Answers, CountsPiece, GivesOn, TakesPiece, awaited, piece_read};
-ghost use Rattle.rv_judge.specs.Tracing.{CountsAll, CountsRise, SameCounts};
-ghost use Rattle.rv_jscan.specs.declared.piece.PieceId.{PieceId as Id};
-ghost use Rattle.rv_jscan.specs.declared.jscan.Given.{Given as TheGiven};
+ghost use Rattle.rv_access.specs.Given.{CountsPiece, GivesOn, TakesPiece, awaited, piece_read};
+ghost use Rattle.rv_judge.specs.Tracing.{CountsAll, SameCounts};
 ghost use Rattle.rv_judge.specs.Counting.{reads};
 ghost use Rattle.rv_retrieval.specs.Effort.{GiveSpends};
 ghost use Rattle.rv_retrieval.specs.Short.{OnlyLeaves, has_short};
 ghost use Rattle.rv_join.specs.Alone.{Fetches, GatherSpends, IsAlone, PlanAsks, PlanSpends, Spends, StepsOnce, TakesOnce, level_effort, plan_effort, plan_life};
-ghost use Rattle.rv_join.specs.Asking.{Asks, CanPlan, CanRun, IsAsked, item_at, lives_of};
+ghost use Rattle.rv_join.specs.Asking.{CanPlan, CanRun, IsAsked, item_at, lives_of};
 ghost use Rattle.rv_join.specs.Levels.{StackFits, first_of, table_rows};
-ghost use Rattle.rv_join.specs.Moves.{Kept, Rises, StackStays, Starts};
+ghost use Rattle.rv_join.specs.Moves.{Kept, Rises, StackStays};
 ghost use Rattle.rv_model.specs.Offering.{offers_over};
 ghost use Rattle.rv_join.specs.Work.{row_cost};
-ghost use Rattle.rv_join.specs.Pieces.{StackAwaits, level_at, plan_awaited, plan_pieces, stack_builds, waits};
-ghost use Rattle.rv_join.specs.Plans.{AreReads, Gathers, Gives, HoldsGood, LeadsWith, PlanFits, PlanKept, PlanMoves, RisesAlone, Sorts, numbers_of, plan_rest, plan_trace, plan_work, reads_with, stage_of};
+ghost use Rattle.rv_join.specs.Pieces.{GivesPiece, StackAwaits, level_at, plan_awaited, plan_pieces, stack_builds, waited, waiting, waits};
+ghost use Rattle.rv_join.specs.Plans.{AreReads, Gathers, Gives, HoldsGood, LeadsWith, PlanFits, PlanKept, PlanMoves, PlanStays, RisesAlone, Sorts, numbers_of, plan_rest, plan_trace, plan_work, reads_with, stage_of};
 
 use crate::gather::{Gathered, Stage};
 use crate::places::{Asked, ask, by_index};
@@ -309,31 +307,29 @@ impl Plan {
         self.stack.take(at, reader, steps)
     }
 
-    /// Gives a sieved piece to the retrieval of one level of the stack, the innermost where `at` is above all others.
-    pub(crate) fn give_at<L: Drop>(
+    /// Gives a sieved piece to the first retrieval in FROM order that awaits one. It is stale where none does.
+    #[tactic(auto, using(crate::proofs::Keeping::stays_still))]
+    pub fn give<L: Drop>(
         &mut self,
-        at: usize,
         sieved: Sieved,
         judge: &mut Box<dyn Judge>,
         steps: &mut Steps<L>,
     ) -> Result<Given, NoMemory>
-        requires open { at ≤ length self.old.stack.above }
-        ensures same { self.new ≡ record self.old { stack = self.new.stack } }
-        ensures given { IfOk result (λ g. Answers (level_at self.old.stack at).here sieved g (level_at self.new.stack at).here) }
-        ensures obeys { IfOk result (λ g. GivesOn (would judge.old) (state judge.old) (state judge.new) sieved g (level_at self.old.stack at).here (level_at self.new.stack at).here) }
+        ensures given { IfOk result (λ g. GivesPiece self.old sieved g self.new) }
+        ensures obeys { IfOk result (λ g. GivesOn (would judge.old) (state judge.old) (state judge.new) sieved g (waiting self.old) (waited self.old self.new)) }
         ensures stays_rule { would judge.new ≡ would judge.old }
         ensures quiet { OnErr result (state judge.new ≡ state judge.old) }
-        ensures lowers { (shown : Shown) → StackFits self.old.asked shown self.old.stack → IfOk result (λ g. GiveSpends g (plan_work shown self.old) (plan_work shown self.new)) }
-        ensures stale { (asked : Id) (now : Option Id) → result ≡ Ok (TheGiven.Stale asked now) → self.new ≡ self.old }
-        ensures counts { SameCounts (trace_of (level_at self.old.stack at).here) (trace_of (level_at self.new.stack at).here) }
-        ensures stays { (shown : Shown) → StackFits self.old.asked shown self.old.stack → StackStays self.old.asked shown self.old.stack self.new.stack }
+        ensures lowers { (shown : Shown) → PlanFits shown self.old → IfOk result (λ g. GiveSpends g (plan_work shown self.old) (plan_work shown self.new)) }
+        ensures counts { SameCounts (plan_trace self.old) (plan_trace self.new) }
+        ensures fits { (shown : Shown) → PlanFits shown self.old → PlanFits shown self.new }
+        ensures stays { (shown : Shown) → PlanFits shown self.old → PlanStays shown self.old self.new }
         ensures err { OnErr result (self.new ≡ self.old) }
         ensures reads { steps.new ≡ steps.old }
         ensures pieces { IfOk result (λ g. CountsPiece g (plan_pieces self.old) (plan_pieces self.new)) }
-        ensures plans { SamePlans (first_of self.old.stack).here (first_of self.new.stack).here }
-        ensures less { (shown : Shown) → self.old.stack.above ≡ [] → AccessFits self.old.stack.at.here shown → IfOk result (λ g. GiveSpends g (level_effort shown self.old.stack.at) (level_effort shown self.new.stack.at)) }
-        ensures settled { self.old.stack.above ≡ [] → Settled self.old.stack.at.here → (self.new ≡ self.old) × (state judge.new ≡ state judge.old) }
+        ensures less { (shown : Shown) → PlanFits shown self.old → IsAlone self.old → IfOk result (λ g. GiveSpends g (plan_effort shown self.old) (plan_effort shown self.new)) }
+        ensures settled { (shown : Shown) → PlanFits shown self.old → IsAlone self.old → Settled self.old.stack.at.here → (self.new ≡ self.old) × (state judge.new ≡ state judge.old) }
     {
+        let at = self.stack.waits();
         self.stack.give(at, sieved, judge, steps)
     }
 }

@@ -1,20 +1,17 @@
 //! The calls on a plan: steps, and the pieces of its retrievals.
-ghost use Rattle.std.specs.Prelude.{◌≡◌, ℕ, None, Ok, IfOk, OnErr, OnOk};
-ghost use Rattle.rv_reader.specs.Shown.{Shown};
-ghost use Rattle.rv_access.specs.Accesses.{SamePlans, Settled, held_of};
+ghost use Rattle.std.specs.Prelude.{◌≡◌, None, Ok, IfOk, OnErr, OnOk};
+ghost use Rattle.rv_access.specs.Accesses.{SamePlans, held_of};
 ghost use Rattle.rv_access.specs.Stepping.{SameCourse};
-ghost use Rattle.rv_access.specs.Given.{CountsPiece, GivesOn, TakesPiece, piece_read};
-ghost use Rattle.rv_judge.specs.Tracing.{CountsRise, SameCounts};
-ghost use Rattle.rv_judge.specs.declared.counting.Counts.{Counts as TheCounts};
-ghost use Rattle.rv_retrieval.specs.Effort.{GiveSpends};
+ghost use Rattle.rv_access.specs.Given.{TakesPiece, piece_read};
+ghost use Rattle.rv_judge.specs.Tracing.{CountsRise};
 ghost use Rattle.rv_join.specs.Alone.{Fetches, FewFetches, IsAlone, PlanAsks, PlanSpends, Spends, StepsOnce, TakesOnce, plan_effort};
 ghost use Rattle.rv_join.specs.Levels.{first_of};
-ghost use Rattle.rv_join.specs.Pieces.{GivesPiece, TakesAwaited, plan_awaited, plan_pieces, waited, waiting, waits};
-ghost use Rattle.rv_join.specs.Plans.{HoldsGood, PlanFits, PlanKept, PlanMoves, PlanStays, RisesAlone, plan_trace, plan_work};
+ghost use Rattle.rv_join.specs.Pieces.{TakesAwaited, plan_awaited, plan_pieces, waited, waiting, waits};
+ghost use Rattle.rv_join.specs.Plans.{HoldsGood, PlanFits, PlanKept, PlanMoves, PlanStays, RisesAlone, plan_trace};
 
 use crate::gather::Stage;
 use crate::plan::Plan;
-use rv_jscan::{Given, Sieved, Taken};
+use rv_jscan::Taken;
 use rv_judge::{Judge, Steps};
 use rv_model::Offer;
 use rv_reader::{Reader, Step};
@@ -110,31 +107,5 @@ impl Plan {
         let taken = self.take_at(at, reader, steps);
         self.count(before, steps.counts());
         taken
-    }
-
-    /// Gives a sieved piece to the first retrieval in FROM order that awaits one. It is stale where none does.
-    #[tactic(auto, using(crate::proofs::Keeping::stays_still))]
-    pub fn give<L: Drop>(
-        &mut self,
-        sieved: Sieved,
-        judge: &mut Box<dyn Judge>,
-        steps: &mut Steps<L>,
-    ) -> Result<Given, NoMemory>
-        ensures given { IfOk result (λ g. GivesPiece self.old sieved g self.new) }
-        ensures obeys { IfOk result (λ g. GivesOn (would judge.old) (state judge.old) (state judge.new) sieved g (waiting self.old) (waited self.old self.new)) }
-        ensures stays_rule { would judge.new ≡ would judge.old }
-        ensures quiet { OnErr result (state judge.new ≡ state judge.old) }
-        ensures lowers { (shown : Shown) → PlanFits shown self.old → IfOk result (λ g. GiveSpends g (plan_work shown self.old) (plan_work shown self.new)) }
-        ensures counts { SameCounts (plan_trace self.old) (plan_trace self.new) }
-        ensures fits { (shown : Shown) → PlanFits shown self.old → PlanFits shown self.new }
-        ensures stays { (shown : Shown) → PlanFits shown self.old → PlanStays shown self.old self.new }
-        ensures err { OnErr result (self.new ≡ self.old) }
-        ensures reads { steps.new ≡ steps.old }
-        ensures pieces { IfOk result (λ g. CountsPiece g (plan_pieces self.old) (plan_pieces self.new)) }
-        ensures less { (shown : Shown) → PlanFits shown self.old → IsAlone self.old → IfOk result (λ g. GiveSpends g (plan_effort shown self.old) (plan_effort shown self.new)) }
-        ensures settled { (shown : Shown) → PlanFits shown self.old → IsAlone self.old → Settled self.old.stack.at.here → (self.new ≡ self.old) × (state judge.new ≡ state judge.old) }
-    {
-        let at = self.waits();
-        self.give_at(at, sieved, judge, steps)
     }
 }
