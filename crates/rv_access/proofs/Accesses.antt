@@ -12,10 +12,10 @@ use Rattle.rv_jscan.specs.declared.jscan.Given.TheVariants.{Accepted, Stale}
 use Rattle.rv_jscan.specs.declared.jscan.Taken.{Taken}
 use Rattle.rv_jscan.specs.declared.jscan.Taken.TheVariants.{Piece, Nothing}
 use Rattle.rv_jscan.specs.Pieces.{Pieced}
-use Rattle.rv_retrieval.specs.declared.steps.Fg.{Fg}
-use Rattle.rv_retrieval.specs.declared.steps.Fg.TheVariants.{Row, Working, End}
+use Rattle.rv_reader.specs.declared.step.Step.{Step}
+use Rattle.rv_value.specs.declared.record.Record.{Record}
 use Rattle.rv_retrieval.specs.Given.{Answers as RetrievalAnswers, TakesLeaf as RetrievalTakes, TakesPiece as RetrievalTakesPiece}
-use Rattle.rv_retrieval.specs.Opens.{GivesStep as RetrievalGivesStep}
+use Rattle.rv_retrieval.specs.Shape.{DoesStep as RetrievalGivesStep}
 use Rattle.rv_retrieval.specs.Rulings.{GivesOn as RetrievalGives}
 use Rattle.rv_retrieval.specs.Runs.{IsOfUndropped as RetrievalUndropped, indexes_asked}
 use Rattle.rv_retrieval.specs.Shape.{Keeps as ShapeKeeps, Shape, is_background}
@@ -53,7 +53,7 @@ plans_stay a = record { query = refl; strategy = refl; plans = refl }
 boxed_plans : (v w : Box Shape Global) → ShapePlans v.value w.value → SamePlans (Competing v) (Competing w)
 boxed_plans v w same = record { query = same.query; strategy = same.strategy; plans = same.plans }
 
-pub steps_plans : (would : ℕ → Facts → Ruling) (state after : ℕ) (shown : Shown) (c d : Counts) (fg : Fg) (old new : Access) → StepsAs would state after shown c d fg old new → SamePlans old new
+pub steps_plans : (would : ℕ → Facts → Ruling) (state after : ℕ) (shown : Shown) (c d : Counts) (fg : Step Record) (old new : Access) → StepsAs would state after shown c d fg old new → SamePlans old new
 steps_plans would state after shown c d fg (Competing v) (Competing w) steps = boxed_plans v w (shape_steps would state after shown c d fg v.value w.value steps)
 steps_plans would state after shown c d fg (Competing v) (Racing s) steps = absurd steps
 steps_plans would state after shown c d fg (Racing r) (Competing w) steps = absurd steps
@@ -103,22 +103,16 @@ united_plans (Err x) would state after piece b old new gives e = subst (λ (u : 
 
 -- WHAT THE CALLS ANSWER, in the words of accesses
 
-pub retrieval_gives : {E : Type 0} (r : Result Fg E) (b : Box Shape Global) (v w : Shape) (shown : Shown) → IfOk r (RetrievalGivesStep v w shown) → IfOk r (GivesStep (with_retrieval b v) (with_retrieval b w) shown)
-retrieval_gives (Ok (Row x)) b v w shown gives = gives
-retrieval_gives (Ok Working) b v w shown gives = gives
-retrieval_gives (Ok End) b v w shown gives = gives
+pub retrieval_gives : {E : Type 0} (r : Result (Step Record) E) (b : Box Shape Global) (v w : Shape) (shown : Shown) → IfOk r (RetrievalGivesStep v w shown) → IfOk r (GivesStep (with_retrieval b v) (with_retrieval b w) shown)
+retrieval_gives (Ok s) b v w shown gives = gives
 retrieval_gives (Err x) b v w shown gives = tt
 
-pub race_gives : {E : Type 0} (r : Result Fg E) (b : Box RacedQuery Global) (old new : RacedQuery) (shown : Shown) → IfOk r (RacedGivesStep old new shown) → IfOk r (GivesStep (with_race b old) (with_race b new) shown)
-race_gives (Ok (Row x)) b old new shown gives = gives
-race_gives (Ok Working) b old new shown gives = gives
-race_gives (Ok End) b old new shown gives = gives
+pub race_gives : {E : Type 0} (r : Result (Step Record) E) (b : Box RacedQuery Global) (old new : RacedQuery) (shown : Shown) → IfOk r (RacedGivesStep old new shown) → IfOk r (GivesStep (with_race b old) (with_race b new) shown)
+race_gives (Ok s) b old new shown gives = gives
 race_gives (Err x) b old new shown gives = tt
 
-pub union_gives : {E : Type 0} (r : Result Fg E) (b : Box UnitedQuery Global) (old new : UnitedQuery) (shown : Shown) → IfOk r (UnitedGivesStep old new shown) → IfOk r (GivesStep (with_union b old) (with_union b new) shown)
-union_gives (Ok (Row x)) b old new shown gives = gives
-union_gives (Ok Working) b old new shown gives = gives
-union_gives (Ok End) b old new shown gives = gives
+pub union_gives : {E : Type 0} (r : Result (Step Record) E) (b : Box UnitedQuery Global) (old new : UnitedQuery) (shown : Shown) → IfOk r (UnitedGivesStep old new shown) → IfOk r (GivesStep (with_union b old) (with_union b new) shown)
+union_gives (Ok s) b old new shown gives = gives
 union_gives (Err x) b old new shown gives = tt
 
 pub retrieval_takes : {E : Type 0} (r : Result Taken E) (b : Box Shape Global) (v : Shape) → IfOk r (RetrievalTakesPiece v) → IfOk r (TakesPiece (with_retrieval b v))

@@ -2,7 +2,6 @@ pub mod Lives
 pub mod Chosen
 pub mod Shapes
 pub mod Counting
-pub mod Answering
 pub mod OfRaces
 pub mod Accesses
 pub mod OfUnions

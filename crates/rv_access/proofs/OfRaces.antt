@@ -21,21 +21,19 @@ use Rattle.rv_judge.specs.Counting.{one_more}
 use Rattle.rv_judge.specs.Runs.{Allowed, AllowedBy, AllowedRun, has_index}
 use Rattle.rv_judge.specs.Verdicts.{Ruling}
 use Rattle.rv_reader.specs.Shown.{Shown}
-use Rattle.rv_scan.specs.declared.skip.Scanned.{Scanned}
-use Rattle.rv_scan.specs.declared.skip.Scanned.TheVariants.{Found, Working, End}
+use Rattle.rv_reader.specs.declared.step.Step.{Step}
+use Rattle.rv_value.specs.declared.record.Record.{Record}
+use Rattle.rv_reader.specs.declared.step.Step.TheVariants.{Row, Working, End}
 use Rattle.rv_jscan.specs.declared.piece.PieceId.{PieceId}
 use Rattle.rv_jscan.specs.declared.jscan.Given.{Given}
 use Rattle.rv_jscan.specs.declared.jscan.Given.TheVariants.{Accepted, Stale}
 use Rattle.rv_jscan.specs.Pieces.{Pieced}
 use Rattle.rv_jscan.specs.Steps.{held_next}
 use Rattle.rv_choice.specs.declared.query.Query.{Query}
-use Rattle.rv_final.proofs.Marks.{unordered}
-use Rattle.rv_retrieval.specs.declared.steps.Fg.{Fg}
-use Rattle.rv_retrieval.specs.declared.steps.Fg.TheVariants.{Row, Working as FgWorking, End as FgEnd}
-use Rattle.rv_retrieval.specs.Opens.{fg_of}
+use Rattle.rv_final.specs.Rest.{Steps}
 use Rattle.rv_retrieval.specs.Runs.{indexes_asked}
 use Rattle.rv_race.specs.Given.{Awaits, awaited, next_id, piece_read, turn_lane, turn_scan}
-use Rattle.rv_race.specs.Opened.{DoesAs, DoesStep, EndsIn, OnlyTakes, ended_by}
+use Rattle.rv_race.specs.Opened.{DoesAs, DoesStep, EndsIn, OnlyTakes, StepsAs as RaceSteps, ended_by}
 use Rattle.rv_race.specs.Raced.{RaceFits, Raced, SameRace, racing, rest}
 use Rattle.rv_race.specs.Rulings.{GivesOn, HasNextTurn, Obeys, accepted, ended, index_at, listed, more, over, ruled, told_over}
 use Rattle.rv_jscan.specs.Planned.{indexes_of}
@@ -46,7 +44,7 @@ use Rattle.rv_access.specs.declared.access.Access.TheVariants.{Racing}
 use Rattle.rv_access.specs.declared.racing.RacedQuery.{RacedQuery}
 use Rattle.rv_access.specs.Accesses.{IsOver, Keeps, RacedFits, RacedTells, SamePlans}
 use Rattle.rv_access.specs.Given.{CountsPiece, RacedGives, RacedLeaf, SamePieces}
-use Rattle.rv_access.specs.Stepping.{RacedCourse, RacedGivesStep, RacedSteps}
+use Rattle.rv_access.specs.Stepping.{RacedCourse, RacedGivesStep, RacedOnly, RacedSteps}
 use Rattle.rv_access.proofs.Boxes.{with_race}
 
 -- WHAT IT IS OVER STAYS
@@ -125,27 +123,25 @@ obeyed_turns would state after piece None old new o =
 
 -- A STEP
 
-gives_as : (old : RacedQuery) (new : Raced) (shown : Shown) (s : Scanned) → old.query.order ≡ [] → DoesStep old.race new shown s → RacedGivesStep old (record old { race = new }) shown (fg_of s)
-gives_as old new shown (Found r) o does = ((does old.query.need).0, unordered old.query.order r (rest old.race shown) o)
-gives_as old new shown Working o does = does old.query.need
-gives_as old new shown End o does = does old.query.need
+pub gives_step : {E : Type 0} (r : Result (Step Record) E) (old : RacedQuery) (new : Raced) (shown : Shown) → old.query.order ≡ [] → IfOk r (DoesStep old.race new shown) → IfOk r (RacedGivesStep old (record old { race = new }) shown)
+gives_step (Ok s) old new shown o does = subst (λ (order : List ℕ). Steps old.query.need order s (rest old.race shown) (rest new shown)) (sym o) (does old.query.need)
+gives_step (Err x) old new shown o does = tt
 
-pub gives_step : (old : RacedQuery) (new : Raced) (shown : Shown) (s : Scanned) (fg : Fg) → old.query.order ≡ [] → DoesStep old.race new shown s → fg ≡ fg_of s → RacedGivesStep old (record old { race = new }) shown fg
-gives_step old new shown s fg o does e = subst (RacedGivesStep old (record old { race = new }) shown) (sym e) (gives_as old new shown s o does)
+pub does_as : {E : Type 0} (r : Result (Step Record) E) (would : ℕ → Facts → Ruling) (state after : ℕ) (shown : Shown) (c d : Counts) (old : RacedQuery) (new : Raced) → IfOk r (λ s. RaceSteps would state after shown c d s old.race new) → IfOk r (λ s. RacedSteps would state after shown c d s old (record old { race = new }))
+does_as (Ok s) would state after shown c d old new steps = record { same = refl; steps = steps }
+does_as (Err x) would state after shown c d old new steps = tt
 
 -- an end leads to the last control
-pub ends_done : (s : Scanned) (fg : Fg) (r : Raced) → fg ≡ fg_of s → EndsIn r s → fg ≡ FgEnd → r.control ≡ Done
-ends_done (Found x) fg r e ends f = absurd (let bad : Row x ≡ FgEnd = sym e ∙ f in cc)
-ends_done Working fg r e ends f = absurd (let bad : FgWorking ≡ FgEnd = sym e ∙ f in cc)
-ends_done End fg r e ends f = ends
+pub ends_done : {E : Type 0} (r : Result (Step Record) E) (new : Raced) → IfOk r (EndsIn new) → r ≡ Ok End → new.control ≡ Done
+ends_done r new ends is = subst (λ x. IfOk x (EndsIn new)) is ends
 
 -- the plans stay
-ended_plans : (s : Scanned) (old r : Raced) → r.plans ≡ old.plans → (ended_by s r).plans ≡ old.plans
-ended_plans (Found x) old r e = e
+ended_plans : (s : Step Record) (old r : Raced) → r.plans ≡ old.plans → (ended_by s r).plans ≡ old.plans
+ended_plans (Row x) old r e = e
 ended_plans Working old r e = e
 ended_plans End old r e = e
 
-does_plans : (now : Control) (would : ℕ → Facts → Ruling) (state after : ℕ) (shown : Shown) (c d : Counts) (s : Scanned) (old new : Raced) → DoesAs now would state after shown c d s old new → new.plans ≡ old.plans
+does_plans : (now : Control) (would : ℕ → Facts → Ruling) (state after : ℕ) (shown : Shown) (c d : Counts) (s : Step Record) (old new : Raced) → DoesAs now would state after shown c d s old new → new.plans ≡ old.plans
 does_plans Building would state after shown c d s old new does = absurd does
 does_plans ForegroundAlone would state after shown c d s old new does = absurd does
 does_plans BackgroundAlone would state after shown c d s old new does =
@@ -155,11 +151,11 @@ does_plans FinalList would state after shown c d s old new does = ap (λ (r : Ra
 does_plans FinalTable would state after shown c d s old new does = ap (λ (r : Raced). r.plans) does.2 ∙ ended_plans s old (record old { last = new.last }) refl
 does_plans Done would state after shown c d s old new does = ap (λ (r : Raced). r.plans) does.3
 
-pub steps_plans : (would : ℕ → Facts → Ruling) (state after : ℕ) (shown : Shown) (c d : Counts) (fg : Fg) (old new : Box RacedQuery Global) → RacedSteps would state after shown c d fg old.value new.value → SamePlans (Racing old) (Racing new)
+pub steps_plans : (would : ℕ → Facts → Ruling) (state after : ℕ) (shown : Shown) (c d : Counts) (fg : Step Record) (old new : Box RacedQuery Global) → RacedSteps would state after shown c d fg old.value new.value → SamePlans (Racing old) (Racing new)
 steps_plans would state after shown c d fg old new steps = record {
   query = ap (λ (r : RacedQuery). r.query) steps.same;
   strategy = refl;
-  plans = ap (λ (r : Raced). r.plans) steps.steps.counts ∙ does_plans old.value.race.control would state after shown c d steps.scanned old.value.race steps.steps.stepped steps.steps.does;
+  plans = ap (λ (r : Raced). r.plans) steps.steps.counts ∙ does_plans old.value.race.control would state after shown c d fg old.value.race steps.steps.stepped steps.steps.does;
 }
 
 -- where it only took, the control, the scans and the events stay
@@ -174,6 +170,14 @@ only_course old new only = record {
   named = only.named;
   events = only.events;
 }
+
+pub still_if : {X E : Type 0} (r : Result X E) (old : RacedQuery) (new : Raced) → OnErr r (OnlyTakes old.race new) → OnErr r (RacedOnly old (record old { race = new }))
+still_if (Ok x) old new only = tt
+still_if (Err x) old new only = record { same = refl; only = only }
+
+pub course_if : {X E : Type 0} (r : Result X E) (old : RacedQuery) (new : Raced) → OnErr r (OnlyTakes old.race new) → OnErr r (RacedCourse old (record old { race = new }))
+course_if (Ok x) old new only = tt
+course_if (Err x) old new only = only_course old new only
 
 -- A TAKE
 

@@ -1,5 +1,5 @@
 -- What the calls of a union leave, in the words of accesses.
-use Rattle.std.proofs.Common.{Result, Ok, Err, IfOk, OnErr, ◌≡◌, ℕ, true, false, Box, [], Option, Some, None, refl, ap, sym, ◌∙◌, subst}
+use Rattle.std.proofs.Common.{Result, Ok, Err, IfOk, OnErr, ◌≡◌, ℕ, true, false, Box, List, [], Option, Some, None, refl, ap, sym, ◌∙◌, subst}
 use Rattle.std.specs.List.{list_all}
 use Rattle.std.specs.declared.alloc.Global.{Global}
 use Rattle.rv_value.specs.declared.record.IndexEntry.{IndexEntry}
@@ -13,20 +13,19 @@ use Rattle.rv_judge.specs.Counting.{one_more}
 use Rattle.rv_judge.specs.Runs.{has_index}
 use Rattle.rv_judge.specs.Verdicts.{Ruling}
 use Rattle.rv_reader.specs.Shown.{Shown}
-use Rattle.rv_scan.specs.declared.skip.Scanned.{Scanned}
-use Rattle.rv_scan.specs.declared.skip.Scanned.TheVariants.{Found, Working, End}
+use Rattle.rv_reader.specs.declared.step.Step.{Step}
+use Rattle.rv_value.specs.declared.record.Record.{Record}
+use Rattle.rv_reader.specs.declared.step.Step.TheVariants.{Row, Working, End}
 use Rattle.rv_jscan.specs.declared.piece.PieceId.{PieceId}
 use Rattle.rv_jscan.specs.declared.jscan.Given.{Given}
 use Rattle.rv_jscan.specs.declared.jscan.Given.TheVariants.{Accepted, Stale}
 use Rattle.rv_jscan.specs.Pieces.{Pieced}
 use Rattle.rv_jscan.specs.Steps.{held_next}
 use Rattle.rv_choice.specs.declared.query.Query.{Query}
-use Rattle.rv_final.proofs.Marks.{unordered}
-use Rattle.rv_retrieval.specs.declared.steps.Fg.{Fg}
-use Rattle.rv_retrieval.specs.Opens.{fg_of}
+use Rattle.rv_final.specs.Rest.{Steps}
 use Rattle.rv_retrieval.specs.Runs.{indexes_asked}
 use Rattle.rv_union.specs.Given.{Awaits, awaited, next_id, piece_read}
-use Rattle.rv_union.specs.Opened.{DoesAs, DoesStep, OnlyTakes, ended_by}
+use Rattle.rv_union.specs.Opened.{DoesAs, DoesStep, EndsIn, OnlyTakes, StepsAs as UnionSteps, ended_by}
 use Rattle.rv_union.specs.Rulings.{GivesOn, Obeys, accepted, joined, next_member, over, ruled}
 use Rattle.rv_jscan.specs.Planned.{indexes_of}
 use Rattle.rv_union.specs.Runs.{Tells}
@@ -37,7 +36,7 @@ use Rattle.rv_access.specs.declared.access.Access.TheVariants.{Uniting}
 use Rattle.rv_access.specs.declared.uniting.UnitedQuery.{UnitedQuery}
 use Rattle.rv_access.specs.Accesses.{Keeps, SamePlans, UnitedFits, UnitedTells, UnitesOver}
 use Rattle.rv_access.specs.Given.{CountsPiece, SamePieces, UnitedGives, UnitedLeaf}
-use Rattle.rv_access.specs.Stepping.{UnitedCourse, UnitedGivesStep, UnitedSteps}
+use Rattle.rv_access.specs.Stepping.{UnitedCourse, UnitedGivesStep, UnitedOnly, UnitedSteps}
 use Rattle.rv_access.proofs.Boxes.{with_union}
 
 -- WHAT IT IS OVER STAYS
@@ -80,21 +79,25 @@ obeyed_turns would state after piece None old new o =
 
 -- A STEP
 
-gives_as : (old : UnitedQuery) (new : Unioned) (shown : Shown) (s : Scanned) → old.query.order ≡ [] → DoesStep old.union new shown s → UnitedGivesStep old (record old { union = new }) shown (fg_of s)
-gives_as old new shown (Found r) o does = ((does old.query.need).0, unordered old.query.order r (rest old.union shown) o)
-gives_as old new shown Working o does = does old.query.need
-gives_as old new shown End o does = does old.query.need
+pub gives_step : {E : Type 0} (r : Result (Step Record) E) (old : UnitedQuery) (new : Unioned) (shown : Shown) → old.query.order ≡ [] → IfOk r (DoesStep old.union new shown) → IfOk r (UnitedGivesStep old (record old { union = new }) shown)
+gives_step (Ok s) old new shown o does = subst (λ (order : List ℕ). Steps old.query.need order s (rest old.union shown) (rest new shown)) (sym o) (does old.query.need)
+gives_step (Err x) old new shown o does = tt
 
-pub gives_step : (old : UnitedQuery) (new : Unioned) (shown : Shown) (s : Scanned) (fg : Fg) → old.query.order ≡ [] → DoesStep old.union new shown s → fg ≡ fg_of s → UnitedGivesStep old (record old { union = new }) shown fg
-gives_step old new shown s fg o does e = subst (UnitedGivesStep old (record old { union = new }) shown) (sym e) (gives_as old new shown s o does)
+pub does_as : {E : Type 0} (r : Result (Step Record) E) (would : ℕ → Facts → Ruling) (state after : ℕ) (shown : Shown) (c d : Counts) (old : UnitedQuery) (new : Unioned) → IfOk r (λ s. UnionSteps would state after shown c d s old.union new) → IfOk r (λ s. UnitedSteps would state after shown c d s old (record old { union = new }))
+does_as (Ok s) would state after shown c d old new steps = record { same = refl; steps = steps }
+does_as (Err x) would state after shown c d old new steps = tt
+
+-- an end leads to the last control
+pub ends_done : {E : Type 0} (r : Result (Step Record) E) (new : Unioned) → IfOk r (EndsIn new) → r ≡ Ok End → new.control ≡ Done
+ends_done r new ends is = subst (λ x. IfOk x (EndsIn new)) is ends
 
 -- the plans stay
-ended_plans : (s : Scanned) (old u : Unioned) → u.plans ≡ old.plans → (ended_by s u).plans ≡ old.plans
-ended_plans (Found x) old u e = e
+ended_plans : (s : Step Record) (old u : Unioned) → u.plans ≡ old.plans → (ended_by s u).plans ≡ old.plans
+ended_plans (Row x) old u e = e
 ended_plans Working old u e = e
 ended_plans End old u e = e
 
-does_plans : (now : Control) (would : ℕ → Facts → Ruling) (state after : ℕ) (shown : Shown) (c d : Counts) (s : Scanned) (old new : Unioned) → DoesAs now would state after shown c d s old new → new.plans ≡ old.plans
+does_plans : (now : Control) (would : ℕ → Facts → Ruling) (state after : ℕ) (shown : Shown) (c d : Counts) (s : Step Record) (old new : Unioned) → DoesAs now would state after shown c d s old new → new.plans ≡ old.plans
 does_plans Building would state after shown c d s old new does = absurd does
 does_plans ForegroundAlone would state after shown c d s old new does = absurd does
 does_plans BackgroundAlone would state after shown c d s old new does =
@@ -104,11 +107,11 @@ does_plans FinalList would state after shown c d s old new does = ap (λ (u : Un
 does_plans FinalTable would state after shown c d s old new does = ap (λ (u : Unioned). u.plans) does.2 ∙ ended_plans s old (record old { last = new.last }) refl
 does_plans Done would state after shown c d s old new does = ap (λ (u : Unioned). u.plans) does.3
 
-pub steps_plans : (would : ℕ → Facts → Ruling) (state after : ℕ) (shown : Shown) (c d : Counts) (fg : Fg) (old new : Box UnitedQuery Global) → UnitedSteps would state after shown c d fg old.value new.value → SamePlans (Uniting old) (Uniting new)
+pub steps_plans : (would : ℕ → Facts → Ruling) (state after : ℕ) (shown : Shown) (c d : Counts) (fg : Step Record) (old new : Box UnitedQuery Global) → UnitedSteps would state after shown c d fg old.value new.value → SamePlans (Uniting old) (Uniting new)
 steps_plans would state after shown c d fg old new steps = record {
   query = ap (λ (u : UnitedQuery). u.query) steps.same;
   strategy = refl;
-  plans = ap (λ (u : Unioned). u.plans) steps.steps.counts ∙ does_plans old.value.union.control would state after shown c d steps.scanned old.value.union steps.steps.stepped steps.steps.does;
+  plans = ap (λ (u : Unioned). u.plans) steps.steps.counts ∙ does_plans old.value.union.control would state after shown c d fg old.value.union steps.steps.stepped steps.steps.does;
 }
 
 -- where it only took, the control, the members, the keys and the events stay
@@ -123,6 +126,14 @@ only_course old new only = record {
   named = only.named;
   events = only.events;
 }
+
+pub still_if : {X E : Type 0} (r : Result X E) (old : UnitedQuery) (new : Unioned) → OnErr r (OnlyTakes old.union new) → OnErr r (UnitedOnly old (record old { union = new }))
+still_if (Ok x) old new only = tt
+still_if (Err x) old new only = record { same = refl; only = only }
+
+pub course_if : {X E : Type 0} (r : Result X E) (old : UnitedQuery) (new : Unioned) → OnErr r (OnlyTakes old.union new) → OnErr r (UnitedCourse old (record old { union = new }))
+course_if (Ok x) old new only = tt
+course_if (Err x) old new only = only_course old new only
 
 -- A TAKE
 

@@ -13,15 +13,15 @@ use Rattle.rv_judge.specs.declared.judging.Verdict.TheVariants.{Continue, Abando
 use Rattle.rv_judge.specs.Counting.{one_more}
 use Rattle.rv_judge.specs.Verdicts.{Ruling}
 use Rattle.rv_reader.specs.Shown.{Shown}
-use Rattle.rv_scan.specs.declared.skip.Scanned.{Scanned}
-use Rattle.rv_scan.specs.declared.skip.Scanned.TheVariants.{Found, Working, End}
+use Rattle.rv_reader.specs.declared.step.Step.{Step}
+use Rattle.rv_value.specs.declared.record.Record.{Record}
+use Rattle.rv_reader.specs.declared.step.Step.TheVariants.{Row, Working, End}
 use Rattle.rv_jscan.specs.declared.piece.PieceId.{PieceId}
 use Rattle.rv_jscan.specs.declared.jscan.Given.{Given}
 use Rattle.rv_jscan.specs.declared.jscan.Given.TheVariants.{Accepted, Stale}
 use Rattle.rv_jscan.specs.Joint.{Joint, under_way}
 use Rattle.rv_jscan.specs.Pieces.{Pieced}
 use Rattle.rv_jscan.specs.Steps.{Accepts, awaited_id, held_next}
-use Rattle.rv_retrieval.specs.declared.steps.Fg.{Fg}
 use Rattle.rv_retrieval.specs.Accounts.{fresh_of}
 use Rattle.rv_retrieval.specs.Given.{AwaitsPiece, TakesLeaf, TakesLeafBy, awaited, more_behind}
 use Rattle.rv_retrieval.specs.Rulings.{GivesOn, Obeyed, dropped, ruled, scan_over, stopped}
@@ -149,13 +149,13 @@ filled_plans v = by_full (length v.delivered == 1024) refl
     by_full true e = rw e (record { query = refl; strategy = refl; plans = refl })
     by_full false e = rw e (plans_stay v)
 
-remembers_plans : (s : Scanned) (old new : Shape) → RemembersBy s old new → ShapePlans old new
-remembers_plans (Found r) old new does = subst (ShapePlans old) (sym does.same) (plans_then old (record old { delivered = new.delivered }) _ (record { query = refl; strategy = refl; plans = refl }) (filled_plans (record old { delivered = new.delivered })))
+remembers_plans : (s : Step Record) (old new : Shape) → RemembersBy s old new → ShapePlans old new
+remembers_plans (Row r) old new does = subst (ShapePlans old) (sym does.same) (plans_then old (record old { delivered = new.delivered }) _ (record { query = refl; strategy = refl; plans = refl }) (filled_plans (record old { delivered = new.delivered })))
 remembers_plans Working old new does = subst (ShapePlans old) (sym does) (plans_stay old)
 remembers_plans End old new does = subst (ShapePlans old) (sym does) (record { query = refl; strategy = refl; plans = refl })
 
-ended_plans : (h : Happening) (s : Scanned) (v : Shape) → ShapePlans v (ended_by h s v)
-ended_plans h (Found r) v = plans_stay v
+ended_plans : (h : Happening) (s : Step Record) (v : Shape) → ShapePlans v (ended_by h s v)
+ended_plans h (Row r) v = plans_stay v
 ended_plans h Working v = plans_stay v
 ended_plans h End v = record { query = refl; strategy = refl; plans = refl }
 
@@ -163,7 +163,7 @@ behind_plans : (b : Bool) (would : ℕ → Facts → Ruling) (state after : ℕ)
 behind_plans true would state after old new does = plans_then old (record old { joint = does.taken }) new (record { query = refl; strategy = refl; plans = ap (λ (j : Joint). j.plans) does.leaves.same }) (given_plans would state after does.piece Accepted (record old { joint = does.taken }) new does.obeys)
 behind_plans false would state after old new does = subst (ShapePlans old) (sym does.0) (plans_stay old)
 
-does_plans : (k : Kind) (would : ℕ → Facts → Ruling) (state after : ℕ) (shown : Shown) (c d : Counts) (s : Scanned) (old new : Shape) → DoesAs k would state after shown c d s old new → ShapePlans old new
+does_plans : (k : Kind) (would : ℕ → Facts → Ruling) (state after : ℕ) (shown : Shown) (c d : Counts) (s : Step Record) (old new : Shape) → DoesAs k would state after shown c d s old new → ShapePlans old new
 does_plans (Borrow key) would state after shown c d s old new does = plans_then old (record old { borrowed = new.borrowed }) new (record { query = refl; strategy = refl; plans = refl }) (remembers_plans s (record old { borrowed = new.borrowed }) new does.1.left)
 does_plans Piece would state after shown c d s old new does = plans_then old (record old { borrowed = does.1.passed }) new (record { query = refl; strategy = refl; plans = refl }) (behind_plans (is_awaiting old) would state after (record old { borrowed = does.1.passed }) new does.1.does)
 does_plans Walk would state after shown c d s old new does = subst (ShapePlans old) (sym does.2) (plans_then old (record old { front = new.front }) _ (record { query = refl; strategy = refl; plans = refl }) (ended_plans FrontEnded s (record old { front = new.front })))
@@ -172,8 +172,8 @@ does_plans NextKey would state after shown c d s old new does = subst (ShapePlan
 does_plans NextPage would state after shown c d s old new does = subst (ShapePlans old) (sym does.1) (plans_then old (record old { last = new.last }) _ (record { query = refl; strategy = refl; plans = refl }) (ended_plans FinalEnded s (record old { last = new.last })))
 does_plans Over would state after shown c d s old new does = subst (ShapePlans old) (sym does.2) (plans_stay old)
 
-pub steps_plans : (would : ℕ → Facts → Ruling) (state after : ℕ) (shown : Shown) (c d : Counts) (fg : Fg) (old new : Shape) → StepsAs would state after shown c d fg old new → ShapePlans old new
-steps_plans would state after shown c d fg old new steps = subst (ShapePlans old) (sym steps.counts) (plans_then old steps.stepped _ (does_plans (kind_of old.control old.strategy (fresh_of old)) would state after shown c d steps.scanned old steps.stepped steps.does) (record { query = refl; strategy = refl; plans = refl }))
+pub steps_plans : (would : ℕ → Facts → Ruling) (state after : ℕ) (shown : Shown) (c d : Counts) (fg : Step Record) (old new : Shape) → StepsAs would state after shown c d fg old new → ShapePlans old new
+steps_plans would state after shown c d fg old new steps = subst (ShapePlans old) (sym steps.counts) (plans_then old steps.stepped _ (does_plans (kind_of old.control old.strategy (fresh_of old)) would state after shown c d fg old steps.stepped steps.does) (record { query = refl; strategy = refl; plans = refl }))
 
 pub course_plans : (old new : Shape) → SameCourse old new → ShapePlans old new
 course_plans old new same = record { query = same.query; strategy = same.strategy; plans = same.plans }

@@ -4,11 +4,9 @@ use Rattle.rv_judge.specs.declared.counting.Counts.{Counts}
 use Rattle.rv_judge.specs.declared.judging.Facts.{Facts}
 use Rattle.rv_judge.specs.Verdicts.{Ruling}
 use Rattle.rv_reader.specs.Shown.{Shown}
-use Rattle.rv_scan.specs.declared.skip.Scanned.{Scanned}
-use Rattle.rv_final.specs.Rest.{IsLeast, TakesOut}
-use Rattle.rv_retrieval.specs.declared.steps.Fg.{Fg}
-use Rattle.rv_retrieval.specs.declared.steps.Fg.TheVariants.{Row, Working, End}
-use Rattle.rv_retrieval.specs.Opens.{fg_of}
+use Rattle.rv_reader.specs.declared.step.Step.{Step}
+use Rattle.rv_value.specs.declared.record.Record.{Record}
+use Rattle.rv_final.specs.Rest.{Steps}
 use Rattle.rv_retrieval.specs.Runs.{SameCourse as RetrievalCourse}
 use Rattle.rv_retrieval.specs.Stepping.{MayReadIts as RetrievalReads, OnlyTakes as RetrievalOnly, StepsAs as RetrievalSteps}
 use Rattle.rv_race.specs.Given.{turn_scan}
@@ -24,46 +22,34 @@ use Rattle.rv_access.specs.Accesses.{Alike, Settled, fetches_left, query_of, res
 
 -- WHAT A STEP GIVES: it takes one record out of the rest, least in the order columns, or leaves the rest, or the rest
 -- is empty
-abbrev pub GivesStep : Access → Access → Shown → Fg → Type 0
-GivesStep old new shown (Row r) =
-    TakesOut (query_of old).need r (rest old shown) (rest new shown) × IsLeast (query_of old).order r (rest old shown)
-GivesStep old new shown Working = rest new shown ≡ rest old shown
-GivesStep old new shown End = (rest old shown ≡ []) × (rest new shown ≡ [])
+abbrev pub GivesStep : Access → Access → Shown → Step Record → Type 0
+GivesStep old new shown step =
+    Steps (query_of old).need (query_of old).order step (rest old shown) (rest new shown)
 
 -- the same of a race, in its own words
-abbrev pub RacedGivesStep : RacedQuery → RacedQuery → Shown → Fg → Type 0
-RacedGivesStep old new shown (Row r) =
-    TakesOut old.query.need r (race_rest old.race shown) (race_rest new.race shown)
-    × IsLeast old.query.order r (race_rest old.race shown)
-RacedGivesStep old new shown Working = race_rest new.race shown ≡ race_rest old.race shown
-RacedGivesStep old new shown End = (race_rest old.race shown ≡ []) × (race_rest new.race shown ≡ [])
+abbrev pub RacedGivesStep : RacedQuery → RacedQuery → Shown → Step Record → Type 0
+RacedGivesStep old new shown step =
+    Steps old.query.need old.query.order step (race_rest old.race shown) (race_rest new.race shown)
 
 -- the same of a union
-abbrev pub UnitedGivesStep : UnitedQuery → UnitedQuery → Shown → Fg → Type 0
-UnitedGivesStep old new shown (Row r) =
-    TakesOut old.query.need r (union_rest old.union shown) (union_rest new.union shown)
-    × IsLeast old.query.order r (union_rest old.union shown)
-UnitedGivesStep old new shown Working = union_rest new.union shown ≡ union_rest old.union shown
-UnitedGivesStep old new shown End = (union_rest old.union shown ≡ []) × (union_rest new.union shown ≡ [])
+abbrev pub UnitedGivesStep : UnitedQuery → UnitedQuery → Shown → Step Record → Type 0
+UnitedGivesStep old new shown step =
+    Steps old.query.need old.query.order step (union_rest old.union shown) (union_rest new.union shown)
 
 -- a step of a race
-pub record RacedSteps (would : ℕ → Facts → Ruling) (state after : ℕ) (shown : Shown) (c d : Counts) (fg : Fg)
+pub record RacedSteps (would : ℕ → Facts → Ruling) (state after : ℕ) (shown : Shown) (c d : Counts) (fg : Step Record)
     (old new : RacedQuery) : Type 0 where
-  pub scanned : Scanned
-  pub answers : fg ≡ fg_of scanned
   pub same : new ≡ record old { race = new.race }
-  pub steps : RaceSteps would state after shown c d scanned old.race new.race
+  pub steps : RaceSteps would state after shown c d fg old.race new.race
 
 -- a step of a union
-pub record UnitedSteps (would : ℕ → Facts → Ruling) (state after : ℕ) (shown : Shown) (c d : Counts) (fg : Fg)
+pub record UnitedSteps (would : ℕ → Facts → Ruling) (state after : ℕ) (shown : Shown) (c d : Counts) (fg : Step Record)
     (old new : UnitedQuery) : Type 0 where
-  pub scanned : Scanned
-  pub answers : fg ≡ fg_of scanned
   pub same : new ≡ record old { union = new.union }
-  pub steps : UnionSteps would state after shown c d scanned old.union new.union
+  pub steps : UnionSteps would state after shown c d fg old.union new.union
 
 -- WHAT A STEP DOES AND READS, and that it is then counted
-abbrev pub StepsAs : (ℕ → Facts → Ruling) → ℕ → ℕ → Shown → Counts → Counts → Fg → Access → Access → Type 0
+abbrev pub StepsAs : (ℕ → Facts → Ruling) → ℕ → ℕ → Shown → Counts → Counts → Step Record → Access → Access → Type 0
 StepsAs would state after shown c d fg old new =
     Alike (RetrievalSteps would state after shown c d fg) (RacedSteps would state after shown c d fg)
     (UnitedSteps would state after shown c d fg) old new

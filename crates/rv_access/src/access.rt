@@ -8,8 +8,8 @@ ghost use Rattle.rv_choice.specs.Asked.{CanAsk};
 ghost use Rattle.rv_choice.specs.Choice.{IsChosen, IsRight, candidates_of};
 ghost use Rattle.rv_choice.specs.Members.{AreUnited};
 ghost use Rattle.rv_final.specs.Work.{Tries};
-ghost use Rattle.rv_final.specs.LaneWork.{GiveSpends};
-ghost use Rattle.rv_retrieval.specs.Effort.{FgSpends, life_of as retrieval_life};
+ghost use Rattle.rv_final.specs.LaneWork.{GiveSpends, Spends};
+ghost use Rattle.rv_retrieval.specs.Effort.{life_of as retrieval_life};
 ghost use Rattle.rv_retrieval.specs.Runs.{indexes_asked};
 ghost use Rattle.rv_retrieval.specs.Short.{OnlyLeaves, has_short};
 ghost use Rattle.rv_access.specs.Ahead.{AllAhead, LeavesNear, is_union, leaves_ahead};
@@ -24,9 +24,9 @@ use crate::uniting::UnitedQuery;
 use rv_choice::{Background, Candidate, Choice, Query, candidates, choose, members};
 use rv_jscan::{Given, PieceId, ScanPlan, Sieved, Taken};
 use rv_judge::{Control, Judge, Steps, Strategy, Trace};
-use rv_reader::Reader;
-use rv_retrieval::{Fg, Retrieval};
-use rv_value::NoMemory;
+use rv_reader::{Reader, Step};
+use rv_retrieval::Retrieval;
+use rv_value::{NoMemory, Record};
 use std::alloc::Global;
 
 /// An open access to one table at a snapshot. What it holds is behind a box, so that an access is cheap to move.
@@ -376,14 +376,14 @@ impl Access {
         reader: &R,
         judge: &mut Box<dyn Judge>,
         steps: &mut Steps<R::Ledger>,
-    ) -> Result<Fg, NoMemory>
+    ) -> Result<Step<Record>, NoMemory>
         requires fits { AccessFits self.old (R.shown reader.now) }
         ensures counts { CountsRise (trace_of self.old) (trace_of self.new) steps.old steps.new }
         ensures query { query_of self.new ≡ query_of self.old }
         ensures fits { AccessFits self.new (R.shown reader.now) }
         ensures step { IfOk result (GivesStep self.old self.new (R.shown reader.now)) }
-        ensures ends { result ≡ Ok Fg.End → control_of self.new ≡ Control.Done }
-        ensures again { control_of self.old ≡ Control.Done → result ≡ Ok Fg.End }
+        ensures ends { result ≡ Ok Step.End → control_of self.new ≡ Control.Done }
+        ensures again { control_of self.old ≡ Control.Done → result ≡ Ok Step.End }
         ensures err { OnErr result (rest self.new (R.shown reader.now) ≡ rest self.old (R.shown reader.now)) }
         ensures does { Tells self.old → IfOk result (λ fg. StepsAs (would judge.old) (state judge.old) (state judge.new) (R.shown reader.now) steps.old steps.new fg self.old self.new) }
         ensures quiet { OnErr result (state judge.new ≡ state judge.old) }
@@ -394,7 +394,7 @@ impl Access {
         ensures course { OnErr result (SameCourse self.old self.new) }
         ensures tells { Tells self.old → Tells self.new }
         ensures tries { Tries steps.old steps.new (effort self.old (R.shown reader.now)) (effort self.new (R.shown reader.now)) }
-        ensures spends { Awaiting self.old → IfOk result (λ fg. FgSpends fg steps.old steps.new (effort self.old (R.shown reader.now)) (effort self.new (R.shown reader.now))) }
+        ensures spends { Awaiting self.old → IfOk result (λ fg. Spends fg steps.old steps.new (effort self.old (R.shown reader.now)) (effort self.new (R.shown reader.now))) }
         ensures kind { is_union self.new ≡ is_union self.old }
         ensures nearer { IfOk result (λ fg. LeavesNear (R.shown reader.now) steps.old steps.new self.old self.new) }
         ensures awaiting { Awaiting self.old → Awaiting self.new }

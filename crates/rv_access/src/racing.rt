@@ -5,9 +5,7 @@ ghost use Rattle.rv_reader.specs.Shown.{Shown};
 ghost use Rattle.rv_choice.specs.Asked.{CanAsk};
 ghost use Rattle.rv_choice.specs.Choice.{IsChosen, candidates_of};
 ghost use Rattle.rv_final.specs.Work.{Tries};
-ghost use Rattle.rv_retrieval.specs.Effort.{FgSpends};
-ghost use Rattle.rv_retrieval.specs.Opens.{fg_of};
-ghost use Rattle.rv_final.specs.LaneWork.{GiveSpends};
+ghost use Rattle.rv_final.specs.LaneWork.{GiveSpends, Spends};
 ghost use Rattle.rv_race.specs.Effort.{effort};
 ghost use Rattle.rv_race.specs.Given.{awaited, piece_read, turn_lane};
 ghost use Rattle.rv_race.specs.Opened.{MayRead};
@@ -23,10 +21,8 @@ use rv_choice::{Candidate, Choice, Query, scans};
 use rv_jscan::{Given, Sieved, Taken};
 use rv_judge::{Control, Judge, Steps};
 use rv_race::Race;
-use rv_reader::Reader;
-use rv_retrieval::Fg;
-use rv_scan::Scanned;
-use rv_value::{Duplicate, NoMemory};
+use rv_reader::{Reader, Step};
+use rv_value::{Duplicate, NoMemory, Record};
 use std::alloc::Global;
 
 /// Two indexes that race, with the query for which they do.
@@ -34,17 +30,6 @@ use std::alloc::Global;
 pub struct RacedQuery {
     pub query: Query,
     pub race: Race,
-}
-
-/// What a scan came to, as an access answers it. Races and unions both use it.
-pub(crate) fn answer(scanned: Scanned) -> Fg
-    ensures { result ≡ fg_of scanned }
-{
-    match scanned {
-        Scanned::Found(record) => Fg::Row(record),
-        Scanned::Working => Fg::Working,
-        Scanned::End => Fg::End,
-    }
 }
 
 impl RacedQuery {
@@ -114,14 +99,14 @@ impl RacedQuery {
         reader: &R,
         judge: &mut Box<dyn Judge>,
         steps: &mut Steps<R::Ledger>,
-    ) -> Result<Fg, NoMemory>
+    ) -> Result<Step<Record>, NoMemory>
         requires fits { RacedFits self.old (R.shown reader.now) }
         ensures counts { CountsRise self.old.race.trace self.new.race.trace steps.old steps.new }
         ensures query { self.new.query ≡ self.old.query }
         ensures fits { RacedFits self.new (R.shown reader.now) }
         ensures step { IfOk result (RacedGivesStep self.old self.new (R.shown reader.now)) }
-        ensures ends { result ≡ Ok Fg.End → self.new.race.control ≡ Control.Done }
-        ensures again { self.old.race.control ≡ Control.Done → result ≡ Ok Fg.End }
+        ensures ends { result ≡ Ok Step.End → self.new.race.control ≡ Control.Done }
+        ensures again { self.old.race.control ≡ Control.Done → result ≡ Ok Step.End }
         ensures err { OnErr result (rest self.new.race (R.shown reader.now) ≡ rest self.old.race (R.shown reader.now)) }
         ensures does { IfOk result (λ fg. RacedSteps (would judge.old) (state judge.old) (state judge.new) (R.shown reader.now) steps.old steps.new fg self.old self.new) }
         ensures quiet { OnErr result (state judge.new ≡ state judge.old) }
@@ -131,13 +116,9 @@ impl RacedQuery {
         ensures course { OnErr result (RacedCourse self.old self.new) }
         ensures tells { RacedTells self.old → RacedTells self.new }
         ensures tries { Tries steps.old steps.new (effort self.old.race (R.shown reader.now)) (effort self.new.race (R.shown reader.now)) }
-        ensures spends { IfOk result (λ fg. FgSpends fg steps.old steps.new (effort self.old.race (R.shown reader.now)) (effort self.new.race (R.shown reader.now))) }
+        ensures spends { IfOk result (λ fg. Spends fg steps.old steps.new (effort self.old.race (R.shown reader.now)) (effort self.new.race (R.shown reader.now))) }
     {
-        let stepped = self.race.step(reader, judge, steps);
-        match stepped {
-            Ok(scanned) => Ok(answer(scanned)),
-            Err(error) => Err(error),
-        }
+        self.race.step(reader, judge, steps)
     }
 
     /// Takes a copy of the awaited piece.

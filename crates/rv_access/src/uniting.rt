@@ -5,8 +5,7 @@ ghost use Rattle.rv_reader.specs.Shown.{Shown};
 ghost use Rattle.rv_choice.specs.Asked.{CanAsk};
 ghost use Rattle.rv_choice.specs.Members.{AreUnited};
 ghost use Rattle.rv_final.specs.Work.{Tries};
-ghost use Rattle.rv_retrieval.specs.Effort.{FgSpends};
-ghost use Rattle.rv_final.specs.LaneWork.{GiveSpends};
+ghost use Rattle.rv_final.specs.LaneWork.{GiveSpends, Spends};
 ghost use Rattle.rv_union.specs.Effort.{effort};
 ghost use Rattle.rv_union.specs.Given.{Answers as UnionAnswers, TakesPiece as UnionTakesPiece, awaited, piece_read};
 ghost use Rattle.rv_union.specs.Leaves.{LeavesFall, leaves_left, planned_leaves};
@@ -18,14 +17,12 @@ ghost use Rattle.rv_access.specs.Given.{UnitedGives, UnitedLeaf};
 ghost use Rattle.rv_access.specs.Opened.{BeginsUnion};
 ghost use Rattle.rv_access.specs.Stepping.{UnitedCourse, UnitedGivesStep, UnitedOnly, UnitedSteps};
 
-use crate::racing::answer;
 use rv_choice::Query;
 use rv_jscan::{Given, ScanPlan, Sieved, Taken};
 use rv_judge::{Control, Judge, Steps};
-use rv_reader::Reader;
-use rv_retrieval::Fg;
+use rv_reader::{Reader, Step};
 use rv_union::Union;
-use rv_value::{Duplicate, NoMemory};
+use rv_value::{Duplicate, NoMemory, Record};
 use std::alloc::Global;
 
 /// Members whose keys are put together, with the query for which they are.
@@ -88,14 +85,14 @@ impl UnitedQuery {
         reader: &R,
         judge: &mut Box<dyn Judge>,
         steps: &mut Steps<R::Ledger>,
-    ) -> Result<Fg, NoMemory>
+    ) -> Result<Step<Record>, NoMemory>
         requires fits { UnitedFits self.old (R.shown reader.now) }
         ensures counts { CountsRise self.old.union.trace self.new.union.trace steps.old steps.new }
         ensures query { self.new.query ≡ self.old.query }
         ensures fits { UnitedFits self.new (R.shown reader.now) }
         ensures step { IfOk result (UnitedGivesStep self.old self.new (R.shown reader.now)) }
-        ensures ends { result ≡ Ok Fg.End → self.new.union.control ≡ Control.Done }
-        ensures again { self.old.union.control ≡ Control.Done → result ≡ Ok Fg.End }
+        ensures ends { result ≡ Ok Step.End → self.new.union.control ≡ Control.Done }
+        ensures again { self.old.union.control ≡ Control.Done → result ≡ Ok Step.End }
         ensures err { OnErr result (rest self.new.union (R.shown reader.now) ≡ rest self.old.union (R.shown reader.now)) }
         ensures does { IfOk result (λ fg. UnitedSteps (would judge.old) (state judge.old) (state judge.new) (R.shown reader.now) steps.old steps.new fg self.old self.new) }
         ensures quiet { OnErr result (state judge.new ≡ state judge.old) }
@@ -105,14 +102,10 @@ impl UnitedQuery {
         ensures course { OnErr result (UnitedCourse self.old self.new) }
         ensures tells { UnitedTells self.old → UnitedTells self.new }
         ensures tries { Tries steps.old steps.new (effort self.old.union (R.shown reader.now)) (effort self.new.union (R.shown reader.now)) }
-        ensures spends { IfOk result (λ fg. FgSpends fg steps.old steps.new (effort self.old.union (R.shown reader.now)) (effort self.new.union (R.shown reader.now))) }
+        ensures spends { IfOk result (λ fg. Spends fg steps.old steps.new (effort self.old.union (R.shown reader.now)) (effort self.new.union (R.shown reader.now))) }
         ensures nearer { IfOk result (λ fg. LeavesFall steps.old steps.new (leaves_left self.old.union (R.shown reader.now)) (leaves_left self.new.union (R.shown reader.now))) }
     {
-        let stepped = self.union.step(reader, judge, steps);
-        match stepped {
-            Ok(scanned) => Ok(answer(scanned)),
-            Err(error) => Err(error),
-        }
+        self.union.step(reader, judge, steps)
     }
 
     /// Takes a copy of the awaited piece.

@@ -17,8 +17,9 @@ use Rattle.rv_judge.specs.Tracing.{SameCounts, counted, noted}
 use Rattle.rv_judge.specs.Verdicts.{Ruling}
 use Rattle.rv_reader.specs.Shown.{Shown}
 use Rattle.rv_scan.specs.Places.{Place}
-use Rattle.rv_scan.specs.declared.skip.Scanned.{Scanned}
-use Rattle.rv_scan.specs.declared.skip.Scanned.TheVariants.{Found, Working, End}
+use Rattle.rv_reader.specs.declared.step.Step.{Step}
+use Rattle.rv_value.specs.declared.record.Record.{Record}
+use Rattle.rv_reader.specs.declared.step.Step.TheVariants.{Row, Working, End}
 use Rattle.rv_jscan.specs.declared.jscan.Taken.{Taken}
 use Rattle.rv_jscan.specs.Joint.{Joint}
 use Rattle.rv_jscan.specs.Steps.{TakeLeaves}
@@ -309,8 +310,8 @@ full_control s c fast both = ap (λ (x : Strategy). next_control x c Full) fast 
 front_control : (s : Strategy) (c : Control) → s ≡ FastFirst → c ≡ Building → next_control s c FrontEnded ≡ Building
 front_control s c fast both = ap (λ (x : Strategy). next_control x c FrontEnded) fast ∙ ap (λ (x : Control). next_control FastFirst x FrontEnded) both
 
-fetched_of : (p : ℕ) (s : Scanned) (old stepped : Shape) → old.control ≡ Building → old.strategy ≡ FastFirst → Kept p old → loans p old.joint stepped.borrowed + 1 ≤ loans p old.joint old.borrowed → RemembersBy s (record old { borrowed = stepped.borrowed }) stepped → Fetched p old stepped
-fetched_of p (Found r) old stepped both fast kept less remembers = subst (Fetched p old) (sym remembers.same) (full (length stepped.delivered == 1024))
+fetched_of : (p : ℕ) (s : Step Record) (old stepped : Shape) → old.control ≡ Building → old.strategy ≡ FastFirst → Kept p old → loans p old.joint stepped.borrowed + 1 ≤ loans p old.joint old.borrowed → RemembersBy s (record old { borrowed = stepped.borrowed }) stepped → Fetched p old stepped
+fetched_of p (Row r) old stepped both fast kept less remembers = subst (Fetched p old) (sym remembers.same) (full (length stepped.delivered == 1024))
   where
     w : Shape
     w = record old { borrowed = stepped.borrowed; delivered = stepped.delivered }
@@ -354,7 +355,7 @@ fetched_of p End old stepped both fast kept less remembers =
 fetch_sum : (pages fetches p f dp cp dr cr left had most : ℕ) → pages ≡ min (p + (dp - cp)) most → fetches ≡ min (f + (dr - cr)) most → dp ≡ cp → dr ≤ cr + 1 → left + 1 ≤ had → pages + fetches + left ≤ p + f + had + 0
 fetch_sum pages fetches p f dp cp dr cr left had most n m a k l = omega (arith, n, m, a, k, l)
 
-borrow_lends : (p planned : ℕ) (query : Query) (s : Scanned) (old stepped new : Shape) (c d : Counts) (key : ℕ) → Lending query p planned old → old.control ≡ Building → fresh_of old ≡ Some key → old.borrowed < stepped.borrowed → RemembersBy s (record old { borrowed = stepped.borrowed }) stepped → d ≡ record_read c → new ≡ record stepped { trace = counted stepped.trace c d } → Lends p old new
+borrow_lends : (p planned : ℕ) (query : Query) (s : Step Record) (old stepped new : Shape) (c d : Counts) (key : ℕ) → Lending query p planned old → old.control ≡ Building → fresh_of old ≡ Some key → old.borrowed < stepped.borrowed → RemembersBy s (record old { borrowed = stepped.borrowed }) stepped → d ≡ record_read c → new ≡ record stepped { trace = counted stepped.trace c d } → Lends p old new
 borrow_lends p planned query s old stepped new c d key l both fresh further remembers reads e =
     let fast = l.fast both in
     let less = loans_borrowed p old.joint old.borrowed stepped.borrowed further (fresh_left old key both fast fresh) (l.few both) in
@@ -364,14 +365,14 @@ borrow_lends p planned query s old stepped new c d key l both fresh further reme
     let fetches : new.trace.fetches ≡ min (old.trace.fetches + (d.records - c.records)) greatest = subst (λ (n : ℕ). new.trace.fetches ≡ min (n + (d.records - c.records)) greatest) fetched.counts.fetches rise.fetches in
     counted_lends p old stepped new c d e (fetch_sum new.trace.pages new.trace.fetches old.trace.pages old.trace.fetches d.pages c.pages d.records c.records (due_of p stepped) (due_of p old) greatest pages fetches (record_pages c d (inr reads)) (record_few c d (inr reads)) fetched.fewer) (subst (Sound p) (sym fetched.joint) l.sound) fetched.fast (λ b. subst (λ (j : Joint). length j.building ≤ part p j.ended) (sym fetched.joint) (l.few both)) (λ b. fetched.kept)
 
-both_lends : (p planned : ℕ) (would : ℕ → Facts → Ruling) (state after : ℕ) (query : Query) (shown : Shown) (c d : Counts) (s : Scanned) (fresh : Option ℕ) (old stepped new : Shape) → p ≤ greatest → IsBounded would → Lending query p planned old → old.control ≡ Building → fresh_of old ≡ fresh → DoesAs (while_both FastFirst fresh) would state after shown c d s old stepped → ReadsAs (while_both FastFirst fresh) old s c d → new ≡ record stepped { trace = counted stepped.trace c d } → Lends p old new
+both_lends : (p planned : ℕ) (would : ℕ → Facts → Ruling) (state after : ℕ) (query : Query) (shown : Shown) (c d : Counts) (s : Step Record) (fresh : Option ℕ) (old stepped new : Shape) → p ≤ greatest → IsBounded would → Lending query p planned old → old.control ≡ Building → fresh_of old ≡ fresh → DoesAs (while_both FastFirst fresh) would state after shown c d s old stepped → ReadsAs (while_both FastFirst fresh) old s c d → new ≡ record stepped { trace = counted stepped.trace c d } → Lends p old new
 both_lends p planned would state after query shown c d s None old stepped new small rule l both fresh does reads e = back_lends p planned would state after query old stepped new c d small rule l (ap is_background both) does.1 reads e
 both_lends p planned would state after query shown c d s (Some key) old stepped new small rule l both fresh does reads e = borrow_lends p planned query s old stepped new c d key l both fresh does.1.further does.1.left reads e
 
 -- the final stage goes on, or ends
 
-final_by : (s : Scanned) (old v stepped : Shape) → v.control ≡ old.control → v.strategy ≡ old.strategy → is_final (next_control old.strategy old.control FinalEnded) ≡ true → is_final old.control ≡ true → stepped ≡ ended_by FinalEnded s v → is_final stepped.control ≡ true
-final_by (Found r) old v stepped control strategy ends final e = ap (λ (x : Shape). is_final x.control) e ∙ ap is_final control ∙ final
+final_by : (s : Step Record) (old v stepped : Shape) → v.control ≡ old.control → v.strategy ≡ old.strategy → is_final (next_control old.strategy old.control FinalEnded) ≡ true → is_final old.control ≡ true → stepped ≡ ended_by FinalEnded s v → is_final stepped.control ≡ true
+final_by (Row r) old v stepped control strategy ends final e = ap (λ (x : Shape). is_final x.control) e ∙ ap is_final control ∙ final
 final_by Working old v stepped control strategy ends final e = ap (λ (x : Shape). is_final x.control) e ∙ ap is_final control ∙ final
 final_by End old v stepped control strategy ends final e = ap (λ (x : Shape). is_final x.control) e ∙ ap (λ (s : Strategy). is_final (next_control s v.control FinalEnded)) strategy ∙ ap (λ (c : Control). is_final (next_control old.strategy c FinalEnded)) control ∙ ends
 
@@ -397,11 +398,11 @@ step_lends p planned would query shown old new small pages rule l steps = by old
       kept = left.kept;
     }
 
-    does : (k : Kind) → kind_of old.control old.strategy (fresh_of old) ≡ k → DoesAs k would steps.state steps.after shown steps.before steps.behind steps.does.scanned old steps.does.stepped
-    does k e = subst (λ (x : Kind). DoesAs x would steps.state steps.after shown steps.before steps.behind steps.does.scanned old steps.does.stepped) e steps.does.does
+    does : (k : Kind) → kind_of old.control old.strategy (fresh_of old) ≡ k → DoesAs k would steps.state steps.after shown steps.before steps.behind steps.fg old steps.does.stepped
+    does k e = subst (λ (x : Kind). DoesAs x would steps.state steps.after shown steps.before steps.behind steps.fg old steps.does.stepped) e steps.does.does
 
-    reads : (k : Kind) → kind_of old.control old.strategy (fresh_of old) ≡ k → ReadsAs k old steps.does.scanned steps.before steps.behind
-    reads k e = subst (λ (x : Kind). ReadsAs x old steps.does.scanned steps.before steps.behind) e steps.does.reads
+    reads : (k : Kind) → kind_of old.control old.strategy (fresh_of old) ≡ k → ReadsAs k old steps.fg steps.before steps.behind
+    reads k e = subst (λ (x : Kind). ReadsAs x old steps.fg steps.before steps.behind) e steps.does.reads
 
     kind : (c : Control) → old.control ≡ c → kind_of old.control old.strategy (fresh_of old) ≡ kind_of c old.strategy (fresh_of old)
     kind c e = ap (λ (x : Control). kind_of x old.strategy (fresh_of old)) e
@@ -410,9 +411,9 @@ step_lends p planned would query shown old new small pages rule l steps = by old
     final f g = from_costs p 0 old new f (ap (λ (x : Shape). is_final x.control) steps.does.counts ∙ g) (step_costs p planned would query shown old new small pages rule (whole_of query p planned old l (final_apart old.control f)) steps)
 
     by : (c : Control) → old.control ≡ c → LoanCosts p 0 old new
-    by Building e = costs (both_lends p planned would steps.state steps.after query shown steps.before steps.behind steps.does.scanned (fresh_of old) old steps.does.stepped new (small_pages p planned greatest small) rule l e refl (does (while_both FastFirst (fresh_of old)) (kind_both old e (l.fast e))) (reads (while_both FastFirst (fresh_of old)) (kind_both old e (l.fast e))) steps.does.counts)
+    by Building e = costs (both_lends p planned would steps.state steps.after query shown steps.before steps.behind steps.fg (fresh_of old) old steps.does.stepped new (small_pages p planned greatest small) rule l e refl (does (while_both FastFirst (fresh_of old)) (kind_both old e (l.fast e))) (reads (while_both FastFirst (fresh_of old)) (kind_both old e (l.fast e))) steps.does.counts)
     by ForegroundAlone e = no_other (sym (ap (is_behind old.strategy) e) ∙ l.within.behind)
     by BackgroundAlone e = costs (back_lends p planned would steps.state steps.after query old steps.does.stepped new steps.before steps.behind (small_pages p planned greatest small) rule l (ap is_background e) (does (kind_of BackgroundAlone old.strategy (fresh_of old)) (kind BackgroundAlone e)).1 (reads (kind_of BackgroundAlone old.strategy (fresh_of old)) (kind BackgroundAlone e)) steps.does.counts)
-    by FinalList e = final (ap is_final e) (final_by steps.does.scanned old (record old { at = steps.does.stepped.at }) steps.does.stepped refl refl (ap (λ (c : Control). is_final (next_control old.strategy c FinalEnded)) e ∙ list_ends old.strategy) (ap is_final e) (does (kind_of FinalList old.strategy (fresh_of old)) (kind FinalList e)).2)
-    by FinalTable e = final (ap is_final e) (final_by steps.does.scanned old (record old { last = steps.does.stepped.last }) steps.does.stepped refl refl (ap (λ (c : Control). is_final (next_control old.strategy c FinalEnded)) e ∙ table_ends old.strategy) (ap is_final e) (does (kind_of FinalTable old.strategy (fresh_of old)) (kind FinalTable e)).1)
+    by FinalList e = final (ap is_final e) (final_by steps.fg old (record old { at = steps.does.stepped.at }) steps.does.stepped refl refl (ap (λ (c : Control). is_final (next_control old.strategy c FinalEnded)) e ∙ list_ends old.strategy) (ap is_final e) (does (kind_of FinalList old.strategy (fresh_of old)) (kind FinalList e)).2)
+    by FinalTable e = final (ap is_final e) (final_by steps.fg old (record old { last = steps.does.stepped.last }) steps.does.stepped refl refl (ap (λ (c : Control). is_final (next_control old.strategy c FinalEnded)) e ∙ table_ends old.strategy) (ap is_final e) (does (kind_of FinalTable old.strategy (fresh_of old)) (kind FinalTable e)).1)
     by Done e = final (ap is_final e) (ap (λ (x : Shape). is_final x.control) (does (kind_of Done old.strategy (fresh_of old)) (kind Done e)).2 ∙ ap is_final e)

@@ -9,7 +9,8 @@ use Rattle.rv_reader.specs.Shown.{Shown}
 use Rattle.rv_jscan.specs.declared.jscan.Given.{Given}
 use Rattle.rv_jscan.specs.declared.jscan.Given.TheVariants.{Accepted, Stale}
 use Rattle.rv_jscan.specs.Pieces.{Pieced}
-use Rattle.rv_retrieval.specs.declared.steps.Fg.{Fg}
+use Rattle.rv_reader.specs.declared.step.Step.{Step}
+use Rattle.rv_value.specs.declared.record.Record.{Record}
 use Rattle.rv_access.specs.declared.access.Access.{Access}
 use Rattle.rv_access.specs.Accesses.{AccessFits, trace_of}
 use Rattle.rv_access.specs.Given.{AwaitsPiece, GivesOn, TakesLeaf, piece_read}
@@ -69,7 +70,7 @@ told_here shown plan fits one = by (trace_of plan.stack.at.here) (counted_here s
 -- A CALL OF THE PLAN AS ONE OF ITS ACCESS, which loses at most so many
 
 -- a step, which answers this or finds no memory
-pub record StepsHere (fg : Option Fg) (would : ℕ → Facts → Ruling) (shown : Shown) (a b : Access) : Type 0 where
+pub record StepsHere (fg : Option (Step Record)) (would : ℕ → Facts → Ruling) (shown : Shown) (a b : Access) : Type 0 where
   pub state : ℕ
   pub after : ℕ
   pub before : Counts
@@ -93,13 +94,13 @@ pub record GivesHere (would : ℕ → Facts → Ruling) (a b : Access) : Type 0 
   pub counts : SameCounts (trace_of a) (trace_of b)
 
 -- what a step loses at most
-abbrev pub lost_step : Option Fg → ℕ
+abbrev pub lost_step : Option (Step Record) → ℕ
 lost_step (Some fg) = 0
 lost_step None = 1
 
 abbrev pub DoesHere : (ℕ → Facts → Ruling) → Shown → ℕ → Access → Access → Type 0
 DoesHere would shown lost a b =
-    ((fg : Option Fg) × StepsHere fg would shown a b × (lost_step fg ≤ lost))
+    ((fg : Option (Step Record)) × StepsHere fg would shown a b × (lost_step fg ≤ lost))
     ⊎ ((TakesHere a b × (lost_leaf b ≤ lost)) ⊎ GivesHere would a b)
 
 -- such a call, or none

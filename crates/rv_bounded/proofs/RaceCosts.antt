@@ -19,8 +19,9 @@ use Rattle.rv_judge.specs.Tracing.{CountsRise, counted}
 use Rattle.rv_judge.specs.Verdicts.{Ruling}
 use Rattle.rv_reader.specs.Shown.{Shown}
 use Rattle.rv_scan.specs.Places.{PageTurns}
-use Rattle.rv_scan.specs.declared.skip.Scanned.{Scanned}
-use Rattle.rv_scan.specs.declared.skip.Scanned.TheVariants.{Found, Working, End}
+use Rattle.rv_reader.specs.declared.step.Step.{Step as Stepped}
+use Rattle.rv_value.specs.declared.record.Record.{Record}
+use Rattle.rv_reader.specs.declared.step.Step.TheVariants.{Row, Working, End}
 use Rattle.rv_jscan.specs.declared.jscan.Given.{Given}
 use Rattle.rv_jscan.specs.declared.jscan.Given.TheVariants.{Accepted, Stale}
 use Rattle.rv_jscan.specs.declared.jscan.ScanCounts.{ScanCounts}
@@ -288,23 +289,23 @@ record Others (p : ℕ) (old new : Raced) : Type 0 where
 counted_sound : (p : ℕ) (stepped new : Raced) (c d : Counts) → new ≡ record stepped { trace = counted stepped.trace c d } → RaceSound p stepped → RaceSound p new
 counted_sound p stepped new c d e s = subst (RaceSound p) (sym e) (record { runs = s.runs; list = s.list })
 
-ended_control : (s : Scanned) (r : Raced) (c : Control) → r.control ≡ c → next_control BackgroundOnly c FinalEnded ≡ Done → (ended_by s r).control ≡ behind s c
-ended_control (Found x) r c e over = e
+ended_control : (s : Stepped Record) (r : Raced) (c : Control) → r.control ≡ c → next_control BackgroundOnly c FinalEnded ≡ Done → (ended_by s r).control ≡ behind s c
+ended_control (Row x) r c e over = e
 ended_control Working r c e over = e
 ended_control End r c e over = ap (λ (k : Control). next_control BackgroundOnly k FinalEnded) e ∙ over
 
-ended_list : (s : Scanned) (r : Raced) → (ended_by s r).list ≡ r.list
-ended_list (Found x) r = refl
+ended_list : (s : Stepped Record) (r : Raced) → (ended_by s r).list ≡ r.list
+ended_list (Row x) r = refl
 ended_list Working r = refl
 ended_list End r = refl
 
-behind_idle : (s : Scanned) (c : Control) → racing c ≡ false → racing (behind s c) ≡ false
-behind_idle (Found x) c off = off
+behind_idle : (s : Stepped Record) (c : Control) → racing c ≡ false → racing (behind s c) ≡ false
+behind_idle (Row x) c off = off
 behind_idle Working c off = off
 behind_idle End c off = refl
 
 -- of the final stage
-stage_others : (p : ℕ) (s : Scanned) (at : Control) (old v stepped new : Raced) (c d : Counts) (had : ℕ) → racing at ≡ false → next_control BackgroundOnly at FinalEnded ≡ Done → v.control ≡ at → v.list ≡ old.list → stepped ≡ ended_by s v → new ≡ record stepped { trace = counted stepped.trace c d } → RaceSound p old → stage_of p old ≡ had → (stepped.control ≡ behind s at → others_of new.trace + stage_of p stepped ≤ others_of old.trace + had + 0) → Others p old new
+stage_others : (p : ℕ) (s : Stepped Record) (at : Control) (old v stepped new : Raced) (c d : Counts) (had : ℕ) → racing at ≡ false → next_control BackgroundOnly at FinalEnded ≡ Done → v.control ≡ at → v.list ≡ old.list → stepped ≡ ended_by s v → new ≡ record stepped { trace = counted stepped.trace c d } → RaceSound p old → stage_of p old ≡ had → (stepped.control ≡ behind s at → others_of new.trace + stage_of p stepped ≤ others_of old.trace + had + 0) → Others p old new
 stage_others p s at old v stepped new c d had off over is list does e sound was less =
     let control : stepped.control ≡ behind s at = ap (λ (x : Raced). x.control) does ∙ ended_control s v at is over in
     let idle : racing stepped.control ≡ false = ap racing control ∙ behind_idle s at off in
@@ -318,7 +319,7 @@ stage_others p s at old v stepped new c d had off over is list does e sound was 
       sound = counted_sound p stepped new c d e still;
     }
 
-does_others : (p planned : ℕ) (would : ℕ → Facts → Ruling) (state after : ℕ) (shown : Shown) (c d : Counts) (s : Scanned) (control : Control) (old stepped new : Raced) → p ≤ greatest → shown.pages old.table old.snap ≡ p → IsBounded would → RaceWhole p planned old → old.control ≡ control → DoesAs control would state after shown c d s old stepped → CountsRise old.trace new.trace c d → new ≡ record stepped { trace = counted stepped.trace c d } → Others p old new
+does_others : (p planned : ℕ) (would : ℕ → Facts → Ruling) (state after : ℕ) (shown : Shown) (c d : Counts) (s : Stepped Record) (control : Control) (old stepped new : Raced) → p ≤ greatest → shown.pages old.table old.snap ≡ p → IsBounded would → RaceWhole p planned old → old.control ≡ control → DoesAs control would state after shown c d s old stepped → CountsRise old.trace new.trace c d → new ≡ record stepped { trace = counted stepped.trace c d } → Others p old new
 does_others p planned would state after shown c d s Building old stepped new small pages rule w is does rise e = absurd does
 does_others p planned would state after shown c d s ForegroundAlone old stepped new small pages rule w is does rise e = absurd does
 does_others p planned would state after shown c d s BackgroundAlone old stepped new small pages rule w is does rise e =

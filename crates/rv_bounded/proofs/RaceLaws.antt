@@ -20,8 +20,9 @@ use Rattle.rv_judge.specs.Tracing.{CountsRise, counted}
 use Rattle.rv_judge.specs.Verdicts.{Ruling}
 use Rattle.rv_restrict.specs.declared.atom.Atom.{Atom}
 use Rattle.rv_reader.specs.Shown.{Shown}
-use Rattle.rv_scan.specs.declared.skip.Scanned.{Scanned}
-use Rattle.rv_scan.specs.declared.skip.Scanned.TheVariants.{Found, Working, End}
+use Rattle.rv_reader.specs.declared.step.Step.{Step as Stepped}
+use Rattle.rv_value.specs.declared.record.Record.{Record}
+use Rattle.rv_reader.specs.declared.step.Step.TheVariants.{Row, Working, End}
 use Rattle.rv_final.specs.Stage.{first_key}
 use Rattle.rv_reader.specs.declared.reader.Chunk.{Chunk}
 use Rattle.rv_jscan.specs.declared.jscan.Given.{Given}
@@ -485,7 +486,7 @@ step_lost p planned old new small w lost = record {
 -- A STEP
 
 -- what becomes of the leaves ahead beside the scans
-stage_lowers : (p planned : ℕ) (s : Scanned) (old v new : Raced) → Placed p planned old → racing old.control ≡ false → v.plans ≡ old.plans → v.counts ≡ old.counts → v.guaranteed ≡ old.guaranteed → v.control ≡ old.control → racing (next_control BackgroundOnly old.control FinalEnded) ≡ false → new ≡ ended_by s v → Placed p planned new × (race_ahead p planned new ≡ 0)
+stage_lowers : (p planned : ℕ) (s : Stepped Record) (old v new : Raced) → Placed p planned old → racing old.control ≡ false → v.plans ≡ old.plans → v.counts ≡ old.counts → v.guaranteed ≡ old.guaranteed → v.control ≡ old.control → racing (next_control BackgroundOnly old.control FinalEnded) ≡ false → new ≡ ended_by s v → Placed p planned new × (race_ahead p planned new ≡ 0)
 stage_lowers p planned s old v new w off plans counts guaranteed control over e = subst (λ (x : Raced). Placed p planned x × (race_ahead p planned x ≡ 0)) (sym e) (by s)
   where
     still : Placed p planned v
@@ -502,8 +503,8 @@ stage_lowers p planned s old v new w off plans counts guaranteed control over e 
     gone_off : racing (next_control BackgroundOnly v.control FinalEnded) ≡ false
     gone_off = ap (λ (c : Control). racing (next_control BackgroundOnly c FinalEnded)) control ∙ over
 
-    by : (s : Scanned) → Placed p planned (ended_by s v) × (race_ahead p planned (ended_by s v) ≡ 0)
-    by (Found r) = (still, idle)
+    by : (s : Stepped Record) → Placed p planned (ended_by s v) × (race_ahead p planned (ended_by s v) ≡ 0)
+    by (Row r) = (still, idle)
     by Working = (still, idle)
     by End = (record { plans = still.plans; room = still.room; less = still.less; runs = λ on. not_racing (racing (next_control BackgroundOnly v.control FinalEnded)) on gone_off }, idle_left p planned (gone FinalEnded v) gone_off)
 
@@ -517,7 +518,7 @@ counted_ahead p planned stepped new c d e = ap (race_ahead p planned) e
 piece_sum : (now was left stepped taken had : ℕ) → now ≤ was + 1 → left ≡ stepped → stepped ≤ taken → taken + 1 ≤ had → now + left ≤ was + had + 0
 piece_sum now was left stepped taken had n e s t = omega (arith, n, e, s, t)
 
-does_spends : (p planned : ℕ) (would : ℕ → Facts → Ruling) (state after : ℕ) (shown : Shown) (c d : Counts) (s : Scanned) (control : Control) (old stepped new : Raced) → p + 2 * planned < greatest → IsBounded would → Placed p planned old → old.control ≡ control → DoesAs control would state after shown c d s old stepped → CountsRise old.trace new.trace c d → new ≡ record stepped { trace = counted stepped.trace c d } → RaceSpends p planned 0 old new
+does_spends : (p planned : ℕ) (would : ℕ → Facts → Ruling) (state after : ℕ) (shown : Shown) (c d : Counts) (s : Stepped Record) (control : Control) (old stepped new : Raced) → p + 2 * planned < greatest → IsBounded would → Placed p planned old → old.control ≡ control → DoesAs control would state after shown c d s old stepped → CountsRise old.trace new.trace c d → new ≡ record stepped { trace = counted stepped.trace c d } → RaceSpends p planned 0 old new
 does_spends p planned would state after shown c d s Building old stepped new small rule w is does rise e = absurd does
 does_spends p planned would state after shown c d s ForegroundAlone old stepped new small rule w is does rise e = absurd does
 does_spends p planned would state after shown c d s BackgroundAlone old stepped new small rule w is does rise e =

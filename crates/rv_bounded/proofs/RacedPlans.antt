@@ -97,7 +97,7 @@ over_pages shown r fits = ap (λ (t : ℕ). shown.pages t r.race.snap) fits.over
 call_of : (lost : ℕ) (would : ℕ → Facts → Ruling) (shown : Shown) (r : Box RacedQuery Global) (b : Access) → IsBounded would → RacedFits r.value shown → AccessFits b shown → DoesHere would shown lost (Racing r) b → Called shown lost r.value b
 call_of lost would shown r (Racing s) rule was fits (inl (Some fg, steps, within)) =
     let does = steps.calls.does in
-    record { box = s; is = refl; same = ap (λ (q : RacedQuery). q.query) does.same; call = Step; would = would; bounded = rule; does = record { shown = shown; state = steps.state; after = steps.after; before = steps.before; behind = steps.behind; scanned = does.scanned; does = does.steps; counts = steps.counts }; over = over_pages shown r.value was; within = within }
+    record { box = s; is = refl; same = ap (λ (q : RacedQuery). q.query) does.same; call = Step; would = would; bounded = rule; does = record { shown = shown; state = steps.state; after = steps.after; before = steps.before; behind = steps.behind; scanned = fg; does = does.steps; counts = steps.counts }; over = over_pages shown r.value was; within = within }
 call_of lost would shown r (Racing s) rule was fits (inl (None, steps, within)) =
     let only = (steps.calls.wants refl).2 in
     record { box = s; is = refl; same = ap (λ (q : RacedQuery). q.query) only.same; call = StepLost; would = would; bounded = rule; does = record { before = steps.before; behind = steps.behind; only = only.only; may_read = steps.calls.may_read; counts = steps.counts }; over = (shown, fits.race); within = within }

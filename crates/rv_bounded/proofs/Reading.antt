@@ -18,8 +18,8 @@ use Rattle.rv_restrict.specs.declared.atom.Atom.{Atom}
 use Rattle.rv_reader.specs.Shown.{Shown}
 use Rattle.rv_scan.specs.Places.{PageReads}
 use Rattle.rv_scan.specs.Reads.{OneAtMost}
-use Rattle.rv_scan.specs.declared.skip.Scanned.{Scanned}
-use Rattle.rv_scan.specs.declared.skip.Scanned.TheVariants.{Found, Working, End}
+use Rattle.rv_reader.specs.declared.step.Step.{Step}
+use Rattle.rv_reader.specs.declared.step.Step.TheVariants.{Row, Working, End}
 use Rattle.rv_jscan.specs.declared.jscan.Taken.{Taken}
 use Rattle.rv_jscan.specs.declared.jscan.Taken.TheVariants.{Piece, Nothing}
 use Rattle.rv_jscan.specs.Joint.{Joint, under_way}
@@ -220,11 +220,11 @@ still_quiet old stepped e = record {
 }
 
 -- the final stage goes on, or ends
-final_quiet : (old v stepped : Shape) (s : Scanned) → Stays old v → v.joint ≡ old.joint → v.trace.leaves ≡ old.trace.leaves → stepped ≡ ended_by FinalEnded s v → Quiet old stepped
+final_quiet : (old v stepped : Shape) (s : Step Record) → Stays old v → v.joint ≡ old.joint → v.trace.leaves ≡ old.trace.leaves → stepped ≡ ended_by FinalEnded s v → Quiet old stepped
 final_quiet old v stepped s stays joint leaves e = subst (Quiet old) (sym e) (by s)
   where
-    by : (s : Scanned) → Quiet old (ended_by FinalEnded s v)
-    by (Found r) = record { stays = stays; joint = joint; leaves = leaves }
+    by : (s : Step Record) → Quiet old (ended_by FinalEnded s v)
+    by (Row r) = record { stays = stays; joint = joint; leaves = leaves }
     by Working = record { stays = stays; joint = joint; leaves = leaves }
     by End = record {
       stays = record { behind = λ b. goes_behind v.strategy v.control FinalEnded (stays.behind b); plans = stays.plans; counts = stays.counts; less = stays.less; asked = stays.asked; apart = λ b. goes_apart v.strategy v.control FinalEnded (stays.apart b) };
@@ -232,8 +232,8 @@ final_quiet old v stepped s stays joint leaves e = subst (Quiet old) (sym e) (by
       leaves = leaves;
     }
 
-pub page_none : (s : Scanned) (c d : Counts) → PageReads s c d → d.leaves ≡ c.leaves
-page_none (Found r) c d reads = ap (λ (x : Counts). x.leaves) reads
+pub page_none : (s : Step Record) (c d : Counts) → PageReads s c d → d.leaves ≡ c.leaves
+page_none (Row r) c d reads = ap (λ (x : Counts). x.leaves) reads
 page_none Working c d reads = ap (λ (x : Counts). x.leaves) reads
 page_none End c d reads = ap (λ (x : Counts). x.leaves) reads
 
@@ -300,8 +300,8 @@ filled_leaves v = by (length v.delivered == 1024)
     by true = refl
     by false = refl
 
-borrow_quiet : (s : Scanned) (old v stepped : Shape) → Stays old v → v.joint ≡ old.joint → v.trace.leaves ≡ old.trace.leaves → RemembersBy s v stepped → Quiet old stepped
-borrow_quiet (Found r) old v stepped stays joint leaves remembers =
+borrow_quiet : (s : Step Record) (old v stepped : Shape) → Stays old v → v.joint ≡ old.joint → v.trace.leaves ≡ old.trace.leaves → RemembersBy s v stepped → Quiet old stepped
+borrow_quiet (Row r) old v stepped stays joint leaves remembers =
     let w = record v { delivered = stepped.delivered } in
     let still : Stays old w = record { behind = stays.behind; plans = stays.plans; counts = stays.counts; less = stays.less; asked = stays.asked; apart = stays.apart } in
     subst (Quiet old) (sym remembers.same) (record { stays = filled_stays old w still; joint = filled_joint w ∙ joint; leaves = filled_leaves w ∙ leaves })
@@ -312,7 +312,7 @@ borrow_quiet End old v stepped stays joint leaves remembers = subst (Quiet old) 
   leaves = leaves;
 })
 
-both_spends : (p planned : ℕ) (would : ℕ → Facts → Ruling) (state after : ℕ) (shown : Shown) (c d : Counts) (s : Scanned) (strategy : Strategy) (fresh : Option ℕ) (old stepped new : Shape) → p + 2 * planned < greatest → IsBounded would → Within p planned old → is_behind strategy Building ≡ true → DoesAs (while_both strategy fresh) would state after shown c d s old stepped → ReadsAs (while_both strategy fresh) old s c d → new ≡ record stepped { trace = counted stepped.trace c d } → Spends p 0 old new
+both_spends : (p planned : ℕ) (would : ℕ → Facts → Ruling) (state after : ℕ) (shown : Shown) (c d : Counts) (s : Step Record) (strategy : Strategy) (fresh : Option ℕ) (old stepped new : Shape) → p + 2 * planned < greatest → IsBounded would → Within p planned old → is_behind strategy Building ≡ true → DoesAs (while_both strategy fresh) would state after shown c d s old stepped → ReadsAs (while_both strategy fresh) old s c d → new ≡ record stepped { trace = counted stepped.trace c d } → Spends p 0 old new
 both_spends p planned would state after shown c d s Table fresh old stepped new small rule w b does reads e = back_spends p planned would state after old stepped new c d small rule w does.1 reads e
 both_spends p planned would state after shown c d s BackgroundOnly fresh old stepped new small rule w b does reads e = back_spends p planned would state after old stepped new c d small rule w does.1 reads e
 both_spends p planned would state after shown c d s Union fresh old stepped new small rule w b does reads e = back_spends p planned would state after old stepped new c d small rule w does.1 reads e
@@ -321,7 +321,7 @@ both_spends p planned would state after shown c d s FastFirst (Some key) old ste
 both_spends p planned would state after shown c d s Sorted fresh old stepped new small rule w b does reads e = no_other b
 both_spends p planned would state after shown c d s IndexOnly fresh old stepped new small rule w b does reads e = no_other b
 
-does_spends : (p planned : ℕ) (would : ℕ → Facts → Ruling) (state after : ℕ) (shown : Shown) (c d : Counts) (s : Scanned) (control : Control) (old stepped new : Shape) → p + 2 * planned < greatest → IsBounded would → Within p planned old → is_behind old.strategy control ≡ true → DoesAs (kind_of control old.strategy (fresh_of old)) would state after shown c d s old stepped → ReadsAs (kind_of control old.strategy (fresh_of old)) old s c d → new ≡ record stepped { trace = counted stepped.trace c d } → Spends p 0 old new
+does_spends : (p planned : ℕ) (would : ℕ → Facts → Ruling) (state after : ℕ) (shown : Shown) (c d : Counts) (s : Step Record) (control : Control) (old stepped new : Shape) → p + 2 * planned < greatest → IsBounded would → Within p planned old → is_behind old.strategy control ≡ true → DoesAs (kind_of control old.strategy (fresh_of old)) would state after shown c d s old stepped → ReadsAs (kind_of control old.strategy (fresh_of old)) old s c d → new ≡ record stepped { trace = counted stepped.trace c d } → Spends p 0 old new
 does_spends p planned would state after shown c d s Building old stepped new small rule w b does reads e = both_spends p planned would state after shown c d s old.strategy (fresh_of old) old stepped new small rule w b does reads e
 does_spends p planned would state after shown c d s ForegroundAlone old stepped new small rule w b does reads e = no_other b
 does_spends p planned would state after shown c d s BackgroundAlone old stepped new small rule w b does reads e = back_spends p planned would state after old stepped new c d small rule w does.1 reads e
@@ -332,8 +332,8 @@ does_spends p planned would state after shown c d s Done old stepped new small r
 pub step_spends : (p planned : ℕ) (would : ℕ → Facts → Ruling) (shown : Shown) (old new : Shape) → p + 2 * planned < greatest → IsBounded would → Within p planned old → Steps would shown old new → Spends p 0 old new
 step_spends p planned would shown old new small rule w steps =
     let does = steps.does in
-    does_spends p planned would steps.state steps.after shown steps.before steps.behind does.scanned old.control old does.stepped new small rule w w.behind does.does does.reads does.counts
+    does_spends p planned would steps.state steps.after shown steps.before steps.behind steps.fg old.control old does.stepped new small rule w w.behind does.does does.reads does.counts
 
-pub key_none : (key : Option ℕ) (only : List (List Atom)) (rows : List Record) (c d : Counts) (s : Scanned) → FetchesKey key only rows c d s → d.leaves ≡ c.leaves
+pub key_none : (key : Option ℕ) (only : List (List Atom)) (rows : List Record) (c d : Counts) (s : Step Record) → FetchesKey key only rows c d s → d.leaves ≡ c.leaves
 key_none None only rows c d s f = ap (λ (x : Counts). x.leaves) f.1
 key_none (Some key) only rows c d s f = ap (λ (x : Counts). x.leaves) f.0

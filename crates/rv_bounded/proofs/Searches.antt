@@ -13,8 +13,9 @@ use Rattle.rv_choice.specs.declared.query.Query.{Query}
 use Rattle.rv_choice.specs.Choice.{AreScans, candidate_of, candidates_of, is_scanned, plan_of}
 use Rattle.rv_choice.specs.declared.choosing.Background.{Background}
 use Rattle.rv_jscan.specs.declared.jscan.ScanPlan.{ScanPlan}
-use Rattle.rv_retrieval.specs.declared.steps.Fg.{Fg}
-use Rattle.rv_retrieval.specs.declared.steps.Fg.TheVariants.{End}
+use Rattle.rv_reader.specs.declared.step.Step.{Step}
+use Rattle.rv_value.specs.declared.record.Record.{Record}
+use Rattle.rv_reader.specs.declared.step.Step.TheVariants.{End}
 use Rattle.rv_retrieval.specs.Shape.{Shape}
 use Rattle.rv_search.specs.Searching.{Searched, StepsAll, searched}
 use Rattle.skew_judges.specs.Guard.{IsBounded}
@@ -59,7 +60,7 @@ record Unread (v : Shape) : Type 0 where
   leaves : v.trace.leaves ≡ 0
   fetches : v.trace.fetches ≡ 0
 
-steps_gone : (answers : List Fg) (query : Query) (p planned : ℕ) (would : ℕ → Facts → Ruling) (shown : Shown) (c : Counts) (old : Shape) (state : ℕ) (new : Searched) → p < 2 ^ 63 → p + 2 * planned < greatest → p ≡ shown.pages query.table query.snap → IsBounded would → Whole query p planned old → Unread old → ahead p old.joint ≤ p + 2 * planned → rest_of p old ≡ p + 48 → StepsAll answers would shown (searched old state c) new → Gone query p planned c old new
+steps_gone : (answers : List (Step Record)) (query : Query) (p planned : ℕ) (would : ℕ → Facts → Ruling) (shown : Shown) (c : Counts) (old : Shape) (state : ℕ) (new : Searched) → p < 2 ^ 63 → p + 2 * planned < greatest → p ≡ shown.pages query.table query.snap → IsBounded would → Whole query p planned old → Unread old → ahead p old.joint ≤ p + 2 * planned → rest_of p old ≡ p + 48 → StepsAll answers would shown (searched old state c) new → Gone query p planned c old new
 steps_gone [] query p planned would shown c old state new few small pages rule w none left rest steps = subst (Gone query p planned c old) (sym steps) (record {
   whole = w;
   leaves = still_sum old.trace.leaves (ahead p old.joint);

@@ -13,8 +13,8 @@ use Rattle.rv_reader.specs.declared.reader.Chunk.{Chunk}
 use Rattle.rv_reader.specs.Shown.{Shown}
 use Rattle.rv_scan.specs.Places.{PageReads, PageTurns, Place}
 use Rattle.rv_scan.specs.Reads.{OneAtMost}
-use Rattle.rv_scan.specs.declared.skip.Scanned.{Scanned}
-use Rattle.rv_scan.specs.declared.skip.Scanned.TheVariants.{Found, Working, End}
+use Rattle.rv_reader.specs.declared.step.Step.{Step}
+use Rattle.rv_reader.specs.declared.step.Step.TheVariants.{Row, Working, End}
 use Rattle.rv_jscan.specs.declared.jscan.ScanPlan.{ScanPlan}
 use Rattle.rv_jscan.specs.Lanes.{IsLeafAt}
 use Rattle.rv_final.specs.Stage.{FetchesKey}
@@ -38,8 +38,8 @@ stage_by FinalTable most p keys next = p - next
 stage_by Done most p keys next = 0
 
 -- where a source at its end leads
-abbrev pub behind : Scanned → Control → Control
-behind (Found r) c = c
+abbrev pub behind : Step Record → Control → Control
+behind (Row r) c = c
 behind Working c = c
 behind End c = Done
 
@@ -85,7 +85,7 @@ page_rise t u c d rise reads = page_more (others_of u) (others_of t) (others_ris
 
 -- THE LIST: a key that is fetched is behind
 
-key_reads : (key : Option ℕ) (only : List (List Atom)) (rows : List Record) (c d : Counts) (s : Scanned) → FetchesKey key only rows c d s → OneAtMost record_read c d
+key_reads : (key : Option ℕ) (only : List (List Atom)) (rows : List Record) (c d : Counts) (s : Step Record) → FetchesKey key only rows c d s → OneAtMost record_read c d
 key_reads None only rows c d s f = inl f.1
 key_reads (Some key) only rows c d s f = inr f.0
 
@@ -95,7 +95,7 @@ fetched_sum now was left rest had n r l = omega (arith, n, r, l)
 ended_sum : (now was rest had : ℕ) → now ≤ was → rest ≡ 0 → now + rest ≤ was + had + 0
 ended_sum now was rest had n r = omega (arith, n, r)
 
-pub list_fewer : (most p left had next : ℕ) (t u : Trace) (c d : Counts) (s : Scanned) (key : Option ℕ) (only : List (List Atom)) (rows : List Record) (now : Control) → CountsRise t u c d → FetchesKey key only rows c d s → Falls s c d had left → now ≡ behind s FinalList → others_of u + stage_by now most p left next ≤ others_of t + had + 0
+pub list_fewer : (most p left had next : ℕ) (t u : Trace) (c d : Counts) (s : Step Record) (key : Option ℕ) (only : List (List Atom)) (rows : List Record) (now : Control) → CountsRise t u c d → FetchesKey key only rows c d s → Falls s c d had left → now ≡ behind s FinalList → others_of u + stage_by now most p left next ≤ others_of t + had + 0
 list_fewer most p left had next t u c d s key only rows now rise fetches falls is = by s falls is
   where
     more : others_of u ≤ others_of t + 1
@@ -104,8 +104,8 @@ list_fewer most p left had next t u c d s key only rows now rise fetches falls i
     rest : (x : Control) → now ≡ x → stage_by now most p left next ≡ stage_by x most p left next
     rest x e = ap (λ (k : Control). stage_by k most p left next) e
 
-    by : (s : Scanned) → Falls s c d had left → now ≡ behind s FinalList → others_of u + stage_by now most p left next ≤ others_of t + had + 0
-    by (Found r) falls is = fetched_sum (others_of u) (others_of t) left (stage_by now most p left next) had more (rest FinalList is) falls
+    by : (s : Step Record) → Falls s c d had left → now ≡ behind s FinalList → others_of u + stage_by now most p left next ≤ others_of t + had + 0
+    by (Row r) falls is = fetched_sum (others_of u) (others_of t) left (stage_by now most p left next) had more (rest FinalList is) falls
     by Working falls is = fetched_sum (others_of u) (others_of t) left (stage_by now most p left next) had more (rest FinalList is) falls
     by End falls is = ended_sum (others_of u) (others_of t) (stage_by now most p left next) had (others_same t u c d rise (ap (λ (x : Counts). x.pages) falls) (ap (λ (x : Counts). x.records) falls)) (rest Done is)
 
@@ -117,14 +117,14 @@ turned_sum now was rest next p before n r l e = omega (arith, n, r, l, e)
 found_sum : (now was rest next p before : ℕ) → now ≤ was → rest ≡ p - next → next ≡ before → now + rest ≤ was + (p - before) + 0
 found_sum now was rest next p before n r e = omega (arith, n, r, e)
 
-pub table_fewer : (most p keys : ℕ) (old new : Place) (t u : Trace) (c d : Counts) (s : Scanned) (now : Control) → CountsRise t u c d → PageReads s c d → PageTurns s old new p → now ≡ behind s FinalTable → others_of u + stage_by now most p keys new.next ≤ others_of t + (p - old.next) + 0
+pub table_fewer : (most p keys : ℕ) (old new : Place) (t u : Trace) (c d : Counts) (s : Step Record) (now : Control) → CountsRise t u c d → PageReads s c d → PageTurns s old new p → now ≡ behind s FinalTable → others_of u + stage_by now most p keys new.next ≤ others_of t + (p - old.next) + 0
 table_fewer most p keys old new t u c d s now rise reads turns is = by s reads turns is
   where
     rest : (x : Control) → now ≡ x → stage_by now most p keys new.next ≡ stage_by x most p keys new.next
     rest x e = ap (λ (k : Control). stage_by k most p keys new.next) e
 
-    by : (s : Scanned) → PageReads s c d → PageTurns s old new p → now ≡ behind s FinalTable → others_of u + stage_by now most p keys new.next ≤ others_of t + (p - old.next) + 0
-    by (Found r) reads turns is = found_sum (others_of u) (others_of t) (stage_by now most p keys new.next) new.next p old.next (others_same t u c d rise (ap (λ (x : Counts). x.pages) reads) (ap (λ (x : Counts). x.records) reads)) (rest FinalTable is) turns
+    by : (s : Step Record) → PageReads s c d → PageTurns s old new p → now ≡ behind s FinalTable → others_of u + stage_by now most p keys new.next ≤ others_of t + (p - old.next) + 0
+    by (Row r) reads turns is = found_sum (others_of u) (others_of t) (stage_by now most p keys new.next) new.next p old.next (others_same t u c d rise (ap (λ (x : Counts). x.pages) reads) (ap (λ (x : Counts). x.records) reads)) (rest FinalTable is) turns
     by Working reads turns is = turned_sum (others_of u) (others_of t) (stage_by now most p keys new.next) new.next p old.next (page_rise t u c d rise (inr reads)) (rest FinalTable is) turns.0 turns.1
     by End reads turns is = ended_sum (others_of u) (others_of t) (stage_by now most p keys new.next) (p - old.next) (others_same t u c d rise (ap (λ (x : Counts). x.pages) reads) (ap (λ (x : Counts). x.records) reads)) (rest Done is)
 

@@ -15,8 +15,9 @@ use Rattle.rv_reader.specs.declared.reader.Chunk.{Chunk}
 use Rattle.rv_reader.specs.Shown.{Shown}
 use Rattle.rv_scan.specs.Places.{PageReads, PageTurns, Place}
 use Rattle.rv_scan.specs.Reads.{OneAtMost}
-use Rattle.rv_scan.specs.declared.skip.Scanned.{Scanned}
-use Rattle.rv_scan.specs.declared.skip.Scanned.TheVariants.{Found, Working, End}
+use Rattle.rv_reader.specs.declared.step.Step.{Step}
+use Rattle.rv_value.specs.declared.record.Record.{Record}
+use Rattle.rv_reader.specs.declared.step.Step.TheVariants.{Row, Working, End}
 use Rattle.rv_jscan.specs.declared.jscan.Taken.{Taken}
 use Rattle.rv_jscan.specs.Joint.{IsNextLeaf, Joint}
 use Rattle.rv_jscan.specs.Steps.{TakeLeaves, reads_leaf}
@@ -298,18 +299,18 @@ key_sum pages fetches p f dp cp dr cr left now had was most n m a k l lt h = ome
 end_sum : (pages fetches p f dp cp dr cr left had most : ℕ) → pages ≡ min (p + (dp - cp)) most → fetches ≡ min (f + (dr - cr)) most → dp ≡ cp → dr ≡ cr → left ≡ 0 → pages + fetches + left ≤ p + f + had + 0
 end_sum pages fetches p f dp cp dr cr left had most n m a k l = omega (arith, n, m, a, k, l)
 
-final_counts : (s : Scanned) (v : Shape) → SameCounts v.trace (ended_by FinalEnded s v).trace
-final_counts (Found r) v = record { pages = refl; leaves = refl; fetches = refl }
+final_counts : (s : Step Record) (v : Shape) → SameCounts v.trace (ended_by FinalEnded s v).trace
+final_counts (Row r) v = record { pages = refl; leaves = refl; fetches = refl }
 final_counts Working v = record { pages = refl; leaves = refl; fetches = refl }
 final_counts End v = record { pages = refl; leaves = refl; fetches = refl }
 
-final_joint : (s : Scanned) (v : Shape) → (ended_by FinalEnded s v).joint ≡ v.joint
-final_joint (Found r) v = refl
+final_joint : (s : Step Record) (v : Shape) → (ended_by FinalEnded s v).joint ≡ v.joint
+final_joint (Row r) v = refl
 final_joint Working v = refl
 final_joint End v = refl
 
 -- a key of the list is fetched
-key_others : (p : ℕ) (s : Scanned) (old stepped new : Shape) (c d : Counts) → old.control ≡ FinalList → Sound p old.joint → stepped ≡ ended_by FinalEnded s (record old { at = stepped.at }) → OneAtMost record_read c d → Falls s c d (keys_work old) (keys_work stepped) → new ≡ record stepped { trace = counted stepped.trace c d } → Others p old new
+key_others : (p : ℕ) (s : Step Record) (old stepped new : Shape) (c d : Counts) → old.control ≡ FinalList → Sound p old.joint → stepped ≡ ended_by FinalEnded s (record old { at = stepped.at }) → OneAtMost record_read c d → Falls s c d (keys_work old) (keys_work stepped) → new ≡ record stepped { trace = counted stepped.trace c d } → Others p old new
 key_others p s old stepped new c d control sound does reads falls e = record {
   fewer = by s does falls;
   sound = new_joint p stepped new c d e (subst (Sound p) (sym (ap (λ (x : Shape). x.joint) does ∙ final_joint s v)) sound);
@@ -338,8 +339,8 @@ key_others p s old stepped new c d control sound does reads falls e = record {
         let left : rest_of p new ≤ keys_work stepped = subst (λ (n : ℕ). rest_of p new ≤ n) (ap keys_work e) (rest_listed new.control p (keys_work new) new.last.next (ap (λ (x : Shape). list_or_done x.control) e ∙ at_list)) in
         key_sum new.trace.pages new.trace.fetches old.trace.pages old.trace.fetches d.pages c.pages d.records c.records (rest_of p new) (keys_work stepped) (rest_of p old) (keys_work old) greatest pages fetches (record_pages c d reads) (record_few c d reads) left fewer had
 
-    by : (s : Scanned) → stepped ≡ ended_by FinalEnded s v → Falls s c d (keys_work old) (keys_work stepped) → others new + rest_of p new ≤ others old + rest_of p old + 0
-    by (Found r) does falls = goes (ap (λ (x : Shape). list_or_done x.control) does ∙ ap list_or_done control) falls
+    by : (s : Step Record) → stepped ≡ ended_by FinalEnded s v → Falls s c d (keys_work old) (keys_work stepped) → others new + rest_of p new ≤ others old + rest_of p old + 0
+    by (Row r) does falls = goes (ap (λ (x : Shape). list_or_done x.control) does ∙ ap list_or_done control) falls
     by Working does falls = goes (ap (λ (x : Shape). list_or_done x.control) does ∙ ap list_or_done control) falls
     by End does falls =
         let done : new.control ≡ Done = ap (λ (x : Shape). x.control) e ∙ ap (λ (x : Shape). x.control) does ∙ ap (λ (k : Control). next_control old.strategy k FinalEnded) control in
@@ -360,7 +361,7 @@ pages_same p next was e = omega (arith, e)
 sum_by : (a b c d read : ℕ) → a ≡ b → d ≡ c → b + read ≤ c → a + read ≤ d
 sum_by a b c d read e f h = omega (arith, e, f, h)
 
-page_others : (p : ℕ) (s : Scanned) (old stepped new : Shape) (c d : Counts) → old.control ≡ FinalTable → Sound p old.joint → stepped ≡ ended_by FinalEnded s (record old { last = stepped.last }) → PageTurns s old.last stepped.last p → PageReads s c d → new ≡ record stepped { trace = counted stepped.trace c d } → Others p old new
+page_others : (p : ℕ) (s : Step Record) (old stepped new : Shape) (c d : Counts) → old.control ≡ FinalTable → Sound p old.joint → stepped ≡ ended_by FinalEnded s (record old { last = stepped.last }) → PageTurns s old.last stepped.last p → PageReads s c d → new ≡ record stepped { trace = counted stepped.trace c d } → Others p old new
 page_others p s old stepped new c d control sound does turns reads e = record {
   fewer = by s does turns reads;
   sound = new_joint p stepped new c d e (subst (Sound p) (sym (ap (λ (x : Shape). x.joint) does ∙ final_joint s v)) sound);
@@ -385,8 +386,8 @@ page_others p s old stepped new c d control sound does turns reads e = record {
     rest_new b is =
         ap (λ (x : Control). rest_by x p (length (keys_left new.joint.list new.at)) new.last.next) (ap (λ (x : Shape). x.control) e ∙ is) ∙ ap (λ (x : Place). rest_by b p (length (keys_left new.joint.list new.at)) x.next) (ap (λ (x : Shape). x.last) e)
 
-    by : (s : Scanned) → stepped ≡ ended_by FinalEnded s v → PageTurns s old.last stepped.last p → PageReads s c d → others new + rest_of p new ≤ others old + rest_of p old + 0
-    by (Found r) does turns reads =
+    by : (s : Step Record) → stepped ≡ ended_by FinalEnded s v → PageTurns s old.last stepped.last p → PageReads s c d → others new + rest_of p new ≤ others old + rest_of p old + 0
+    by (Row r) does turns reads =
         let at_table : stepped.control ≡ FinalTable = ap (λ (x : Shape). x.control) does ∙ control in
         sums 0 (no_more d.pages c.pages (ap (λ (x : Counts). x.pages) reads)) (ap (λ (x : Counts). x.records) reads) (sum_by (rest_of p new) (p - stepped.last.next) (p - old.last.next) (rest_of p old) 0 (rest_new FinalTable at_table) had (pages_same p stepped.last.next old.last.next turns))
     by Working does turns reads =
@@ -403,7 +404,7 @@ done_others p old stepped new c d sound same reads e = record {
   sound = new_joint p stepped new c d e (subst (λ (x : Shape). Sound p x.joint) (sym same) sound);
 }
 
-does_others : (p planned : ℕ) (would : ℕ → Facts → Ruling) (state after : ℕ) (query : Query) (shown : Shown) (c d : Counts) (s : Scanned) (control : Control) (old stepped new : Shape) → p ≤ greatest → p ≡ shown.pages query.table query.snap → IsBounded would → Whole query p planned old → old.control ≡ control → DoesAs (kind_of control old.strategy (fresh_of old)) would state after shown c d s old stepped → ReadsAs (kind_of control old.strategy (fresh_of old)) old s c d → new ≡ record stepped { trace = counted stepped.trace c d } → Others p old new
+does_others : (p planned : ℕ) (would : ℕ → Facts → Ruling) (state after : ℕ) (query : Query) (shown : Shown) (c d : Counts) (s : Step Record) (control : Control) (old stepped new : Shape) → p ≤ greatest → p ≡ shown.pages query.table query.snap → IsBounded would → Whole query p planned old → old.control ≡ control → DoesAs (kind_of control old.strategy (fresh_of old)) would state after shown c d s old stepped → ReadsAs (kind_of control old.strategy (fresh_of old)) old s c d → new ≡ record stepped { trace = counted stepped.trace c d } → Others p old new
 does_others p planned would state after query shown c d s Building old stepped new small pages rule w control does reads e = no_other (sym (ap is_apart control) ∙ w.apart)
 does_others p planned would state after query shown c d s ForegroundAlone old stepped new small pages rule w control does reads e = no_other (sym (ap is_apart control) ∙ w.apart)
 does_others p planned would state after query shown c d s BackgroundAlone old stepped new small pages rule w control does reads e = back_others p planned would state after query old stepped new c d small rule w control does.1 reads e
@@ -416,7 +417,7 @@ does_others p planned would state after query shown c d s Done old stepped new s
 pub step_costs : (p planned : ℕ) (would : ℕ → Facts → Ruling) (query : Query) (shown : Shown) (old new : Shape) → p + 2 * planned < greatest → p ≡ shown.pages query.table query.snap → IsBounded would → Whole query p planned old → Steps would shown old new → Costs p 0 old new
 step_costs p planned would query shown old new small pages rule w steps =
     let does = steps.does in
-    let left = does_others p planned would steps.state steps.after query shown steps.before steps.behind does.scanned old.control old does.stepped new (small_pages p planned greatest small) pages rule w refl does.does does.reads does.counts in
+    let left = does_others p planned would steps.state steps.after query shown steps.before steps.behind steps.fg old.control old does.stepped new (small_pages p planned greatest small) pages rule w refl does.does does.reads does.counts in
     record {
       leaf = 0;
       other = 0;
@@ -435,7 +436,7 @@ back_counts would state after old stepped steps = by (is_awaiting old) steps.doe
     by true one = outcome_counts would state one.piece.entries (record old { borrowed = steps.passed; joint = one.taken }) stepped (given_outcome would state after one.piece (record old { borrowed = steps.passed; joint = one.taken }) stepped one.obeys.0 one.awaits one.obeys.1 one.obeys.2)
     by false still = subst (λ (x : Shape). SameCounts old.trace x.trace) (sym still.0) (record { pages = refl; leaves = refl; fetches = refl })
 
-does_counts : (would : ℕ → Facts → Ruling) (state after : ℕ) (shown : Shown) (c d : Counts) (s : Scanned) (control : Control) (old stepped : Shape) → is_apart control ≡ true → DoesAs (kind_of control old.strategy (fresh_of old)) would state after shown c d s old stepped → SameCounts old.trace stepped.trace
+does_counts : (would : ℕ → Facts → Ruling) (state after : ℕ) (shown : Shown) (c d : Counts) (s : Step Record) (control : Control) (old stepped : Shape) → is_apart control ≡ true → DoesAs (kind_of control old.strategy (fresh_of old)) would state after shown c d s old stepped → SameCounts old.trace stepped.trace
 does_counts would state after shown c d s Building old stepped b does = no_other b
 does_counts would state after shown c d s ForegroundAlone old stepped b does = no_other b
 does_counts would state after shown c d s BackgroundAlone old stepped b does = back_counts would state after old stepped does.1
@@ -446,7 +447,7 @@ does_counts would state after shown c d s Done old stepped b does = subst (λ (x
 pub step_rise : (would : ℕ → Facts → Ruling) (shown : Shown) (old new : Shape) → is_apart old.control ≡ true → (steps : Steps would shown old new) → CountsRise old.trace new.trace steps.before steps.behind
 step_rise would shown old new b steps =
     let does = steps.does in
-    let same = does_counts would steps.state steps.after shown steps.before steps.behind does.scanned old.control old does.stepped b does.does in
+    let same = does_counts would steps.state steps.after shown steps.before steps.behind steps.fg old.control old does.stepped b does.does in
     let rise = counted_rise does.stepped new steps.before steps.behind does.counts in
     record {
       pages = subst (λ (n : ℕ). new.trace.pages ≡ min (n + (steps.behind.pages - steps.before.pages)) greatest) same.pages rise.pages;

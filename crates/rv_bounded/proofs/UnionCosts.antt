@@ -23,8 +23,9 @@ use Rattle.rv_judge.specs.Tracing.{CountsRise, counted}
 use Rattle.rv_judge.specs.Verdicts.{Ruling}
 use Rattle.rv_reader.specs.Shown.{Shown}
 use Rattle.rv_scan.specs.Places.{PageTurns}
-use Rattle.rv_scan.specs.declared.skip.Scanned.{Scanned}
-use Rattle.rv_scan.specs.declared.skip.Scanned.TheVariants.{Found, Working, End}
+use Rattle.rv_reader.specs.declared.step.Step.{Step as Stepped}
+use Rattle.rv_value.specs.declared.record.Record.{Record}
+use Rattle.rv_reader.specs.declared.step.Step.TheVariants.{Row, Working, End}
 use Rattle.rv_jscan.specs.declared.jscan.Given.{Given}
 use Rattle.rv_jscan.specs.declared.jscan.Given.TheVariants.{Accepted, Stale}
 use Rattle.rv_jscan.specs.declared.jscan.Taken.{Taken}
@@ -359,23 +360,23 @@ counted_sound p members stepped new c d e s = subst (UnionSound p members) (sym 
     again : MemberSound p stepped → MemberSound p (record stepped { trace = counted stepped.trace c d })
     again m = record { scanned = m.scanned; capped = m.capped; built = m.built; few = m.few; short = m.short }
 
-ended_control : (s : Scanned) (u : Unioned) (c : Control) → u.control ≡ c → next_control Union c FinalEnded ≡ Done → (ended_by s u).control ≡ behind s c
-ended_control (Found x) u c e over = e
+ended_control : (s : Stepped Record) (u : Unioned) (c : Control) → u.control ≡ c → next_control Union c FinalEnded ≡ Done → (ended_by s u).control ≡ behind s c
+ended_control (Row x) u c e over = e
 ended_control Working u c e over = e
 ended_control End u c e over = ap (λ (k : Control). next_control Union k FinalEnded) e ∙ over
 
-ended_keys : (s : Scanned) (u : Unioned) → (ended_by s u).keys ≡ u.keys
-ended_keys (Found x) u = refl
+ended_keys : (s : Stepped Record) (u : Unioned) → (ended_by s u).keys ≡ u.keys
+ended_keys (Row x) u = refl
 ended_keys Working u = refl
 ended_keys End u = refl
 
-behind_idle : (s : Scanned) (c : Control) → scanning c ≡ false → scanning (behind s c) ≡ false
-behind_idle (Found x) c off = off
+behind_idle : (s : Stepped Record) (c : Control) → scanning c ≡ false → scanning (behind s c) ≡ false
+behind_idle (Row x) c off = off
 behind_idle Working c off = off
 behind_idle End c off = refl
 
 -- of the final stage
-stage_others : (p members : ℕ) (s : Scanned) (at : Control) (old v stepped new : Unioned) (c d : Counts) (had : ℕ) → scanning at ≡ false → next_control Union at FinalEnded ≡ Done → v.control ≡ at → v.keys ≡ old.keys → stepped ≡ ended_by s v → new ≡ record stepped { trace = counted stepped.trace c d } → UnionSound p members old → stage_of p members old ≡ had → (stepped.control ≡ behind s at → others_of new.trace + stage_of p members stepped ≤ others_of old.trace + had + 0) → Others p members old new
+stage_others : (p members : ℕ) (s : Stepped Record) (at : Control) (old v stepped new : Unioned) (c d : Counts) (had : ℕ) → scanning at ≡ false → next_control Union at FinalEnded ≡ Done → v.control ≡ at → v.keys ≡ old.keys → stepped ≡ ended_by s v → new ≡ record stepped { trace = counted stepped.trace c d } → UnionSound p members old → stage_of p members old ≡ had → (stepped.control ≡ behind s at → others_of new.trace + stage_of p members stepped ≤ others_of old.trace + had + 0) → Others p members old new
 stage_others p members s at old v stepped new c d had off over is keys does e sound was less =
     let control : stepped.control ≡ behind s at = ap (λ (x : Unioned). x.control) does ∙ ended_control s v at is over in
     let idle : scanning stepped.control ≡ false = ap scanning control ∙ behind_idle s at off in
@@ -389,7 +390,7 @@ stage_others p members s at old v stepped new c d had off over is keys does e so
       sound = counted_sound p members stepped new c d e still;
     }
 
-does_others : (p members : ℕ) (would : ℕ → Facts → Ruling) (state after : ℕ) (shown : Shown) (c d : Counts) (s : Scanned) (control : Control) (old stepped new : Unioned) → p ≤ greatest → shown.pages old.table old.snap ≡ p → IsBounded would → UnionWhole p members old → old.control ≡ control → DoesAs control would state after shown c d s old stepped → CountsRise old.trace new.trace c d → new ≡ record stepped { trace = counted stepped.trace c d } → Others p members old new
+does_others : (p members : ℕ) (would : ℕ → Facts → Ruling) (state after : ℕ) (shown : Shown) (c d : Counts) (s : Stepped Record) (control : Control) (old stepped new : Unioned) → p ≤ greatest → shown.pages old.table old.snap ≡ p → IsBounded would → UnionWhole p members old → old.control ≡ control → DoesAs control would state after shown c d s old stepped → CountsRise old.trace new.trace c d → new ≡ record stepped { trace = counted stepped.trace c d } → Others p members old new
 does_others p members would state after shown c d s Building old stepped new small pages rule w is does rise e = absurd does
 does_others p members would state after shown c d s ForegroundAlone old stepped new small pages rule w is does rise e = absurd does
 does_others p members would state after shown c d s BackgroundAlone old stepped new small pages rule w is does rise e =

@@ -20,8 +20,9 @@ use Rattle.rv_judge.specs.Verdicts.{Ruling}
 use Rattle.rv_restrict.specs.declared.atom.Atom.{Atom}
 use Rattle.rv_reader.specs.declared.reader.Chunk.{Chunk}
 use Rattle.rv_reader.specs.Shown.{Shown}
-use Rattle.rv_scan.specs.declared.skip.Scanned.{Scanned}
-use Rattle.rv_scan.specs.declared.skip.Scanned.TheVariants.{Found, Working, End}
+use Rattle.rv_reader.specs.declared.step.Step.{Step as Stepped}
+use Rattle.rv_value.specs.declared.record.Record.{Record}
+use Rattle.rv_reader.specs.declared.step.Step.TheVariants.{Row, Working, End}
 use Rattle.rv_final.specs.Stage.{first_key}
 use Rattle.rv_jscan.specs.declared.jscan.Given.{Given}
 use Rattle.rv_jscan.specs.declared.jscan.Given.TheVariants.{Accepted, Stale}
@@ -343,7 +344,7 @@ step_lost p members old new small w lost = record {
 -- A STEP
 
 -- what becomes of the leaves ahead beside the scans
-stage_lowers : (p members : ℕ) (s : Scanned) (old v new : Unioned) → Placed p members old → scanning old.control ≡ false → v.plans ≡ old.plans → v.member ≡ old.member → v.guaranteed ≡ old.guaranteed → v.control ≡ old.control → scanning (next_control Union old.control FinalEnded) ≡ false → new ≡ ended_by s v → Placed p members new × (union_ahead p members new ≡ 0)
+stage_lowers : (p members : ℕ) (s : Stepped Record) (old v new : Unioned) → Placed p members old → scanning old.control ≡ false → v.plans ≡ old.plans → v.member ≡ old.member → v.guaranteed ≡ old.guaranteed → v.control ≡ old.control → scanning (next_control Union old.control FinalEnded) ≡ false → new ≡ ended_by s v → Placed p members new × (union_ahead p members new ≡ 0)
 stage_lowers p members s old v new w off plans member guaranteed control over e = subst (λ (x : Unioned). Placed p members x × (union_ahead p members x ≡ 0)) (sym e) (by s)
   where
     still : Placed p members v
@@ -359,8 +360,8 @@ stage_lowers p members s old v new w off plans member guaranteed control over e 
     gone_off : scanning (next_control Union v.control FinalEnded) ≡ false
     gone_off = ap (λ (c : Control). scanning (next_control Union c FinalEnded)) control ∙ over
 
-    by : (s : Scanned) → Placed p members (ended_by s v) × (union_ahead p members (ended_by s v) ≡ 0)
-    by (Found r) = (still, idle)
+    by : (s : Stepped Record) → Placed p members (ended_by s v) × (union_ahead p members (ended_by s v) ≡ 0)
+    by (Row r) = (still, idle)
     by Working = (still, idle)
     by End = (record { plans = still.plans; there = still.there; less = still.less }, idle_left p members (gone FinalEnded v) gone_off)
 
@@ -377,7 +378,7 @@ piece_sum now was left stepped sum taken had n e s g t = omega (arith, n, e, s, 
 none_sum : (now was left stepped sum taken had : ℕ) → now ≤ was → left ≡ stepped → stepped ≤ sum → taken ≡ sum → taken ≤ had → now + left ≤ was + had + 0
 none_sum now was left stepped sum taken had n e s g t = omega (arith, n, e, s, g, t)
 
-does_spends : (p members : ℕ) (would : ℕ → Facts → Ruling) (state after : ℕ) (shown : Shown) (c d : Counts) (s : Scanned) (control : Control) (old stepped new : Unioned) → p + 2 * members < greatest → IsBounded would → members ≤ 2 ^ 32 → Placed p members old → old.control ≡ control → DoesAs control would state after shown c d s old stepped → CountsRise old.trace new.trace c d → new ≡ record stepped { trace = counted stepped.trace c d } → UnionSpends p members 0 old new
+does_spends : (p members : ℕ) (would : ℕ → Facts → Ruling) (state after : ℕ) (shown : Shown) (c d : Counts) (s : Stepped Record) (control : Control) (old stepped new : Unioned) → p + 2 * members < greatest → IsBounded would → members ≤ 2 ^ 32 → Placed p members old → old.control ≡ control → DoesAs control would state after shown c d s old stepped → CountsRise old.trace new.trace c d → new ≡ record stepped { trace = counted stepped.trace c d } → UnionSpends p members 0 old new
 does_spends p members would state after shown c d s Building old stepped new small rule few w is does rise e = absurd does
 does_spends p members would state after shown c d s ForegroundAlone old stepped new small rule few w is does rise e = absurd does
 does_spends p members would state after shown c d s BackgroundAlone old stepped new small rule few w is does rise e =

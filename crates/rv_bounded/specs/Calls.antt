@@ -9,7 +9,8 @@ use Rattle.rv_reader.specs.Shown.{Shown}
 use Rattle.rv_jscan.specs.declared.jscan.Given.{Given}
 use Rattle.rv_jscan.specs.declared.jscan.Taken.{Taken}
 use Rattle.rv_jscan.specs.Pieces.{Pieced}
-use Rattle.rv_retrieval.specs.declared.steps.Fg.{Fg}
+use Rattle.rv_reader.specs.declared.step.Step.{Step as Stepped}
+use Rattle.rv_value.specs.declared.record.Record.{Record}
 use Rattle.rv_retrieval.specs.Given.{Answers, TakesLeaf, TakesPiece}
 use Rattle.rv_retrieval.specs.Rulings.{GivesOn}
 use Rattle.rv_retrieval.specs.Shape.{RetrievalFits, Shape}
@@ -22,7 +23,7 @@ pub record Steps (would : ℕ → Facts → Ruling) (shown : Shown) (old new : S
   pub after : ℕ
   pub before : Counts
   pub behind : Counts
-  pub fg : Fg
+  pub fg : Stepped Record
   pub does : StepsAs would state after shown before behind fg old new
 
 -- a foreground step for which no memory is found

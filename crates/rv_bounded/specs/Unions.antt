@@ -6,7 +6,8 @@ use Rattle.rv_judge.specs.Tracing.{CountsRise, SameCounts}
 use Rattle.rv_judge.specs.Verdicts.{Ruling}
 use Rattle.rv_restrict.specs.declared.atom.Atom.{Atom}
 use Rattle.rv_reader.specs.Shown.{Shown}
-use Rattle.rv_scan.specs.declared.skip.Scanned.{Scanned}
+use Rattle.rv_reader.specs.declared.step.Step.{Step as Stepped}
+use Rattle.rv_value.specs.declared.record.Record.{Record}
 use Rattle.rv_jscan.specs.declared.jscan.Given.{Given}
 use Rattle.rv_jscan.specs.declared.jscan.ScanPlan.{ScanPlan}
 use Rattle.rv_jscan.specs.declared.jscan.Taken.{Taken}
@@ -26,7 +27,7 @@ pub record UnionSteps (would : ℕ → Facts → Ruling) (old new : Unioned) : T
   pub after : ℕ
   pub before : Counts
   pub behind : Counts
-  pub scanned : Scanned
+  pub scanned : Stepped Record
   pub does : StepsAs would state after shown before behind scanned old new
   pub counts : CountsRise old.trace new.trace before behind
 

@@ -9,8 +9,8 @@ use Rattle.rv_rows.specs.Rows.{Ascend}
 use Rattle.rv_restrict.specs.declared.atom.Atom.{Atom}
 use Rattle.rv_restrict.specs.Truth.{qualifies}
 use Rattle.rv_reader.specs.Tables.{row_at}
-use Rattle.rv_scan.specs.declared.skip.Scanned.{Scanned}
-use Rattle.rv_scan.specs.declared.skip.Scanned.TheVariants.{Found, Working, End}
+use Rattle.rv_reader.specs.declared.step.Step.{Step}
+use Rattle.rv_reader.specs.declared.step.Step.TheVariants.{Row, Working, End}
 use Rattle.rv_scan.specs.Due.{Skipped, StepsTo, due, is_due, skips}
 use Rattle.rv_final.specs.Rest.{qualifies_at, Agree, AgreesIn, IsWide, Marks, StepMarks, has_row}
 use Rattle.rv_final.proofs.Rests.{below_all, rows_found, told_by}
@@ -132,8 +132,8 @@ found_marks need only rows skip xs ys r asc lx ly e =
 none_due : (need : List ℕ) (only : List (List Atom)) (rows : List Record) (skip : Skipped) (xs : List Record) → Ascend rows → Looks need only rows xs → due only skip xs ≡ [] → Agree only rows (λ n. false) (open_in xs skip)
 none_due need only rows skip xs asc l e n q = sym (due_has need only rows skip xs n asc l.each q) ∙ ap (has_row n) e
 
-pub step_marks : (need : List ℕ) (only : List (List Atom)) (rows : List Record) (skip : Skipped) (xs ys : List Record) (s : Scanned) (w v : ℕ) → Ascend rows → Looks need only rows xs → Looks need only rows ys → StepsTo s (due only skip xs) w (due only skip ys) v → StepMarks need only rows s (open_in xs skip) (open_in ys skip)
-step_marks need only rows skip xs ys (Found r) w v asc lx ly step = found_marks need only rows skip xs ys r asc lx ly step.0
+pub step_marks : (need : List ℕ) (only : List (List Atom)) (rows : List Record) (skip : Skipped) (xs ys : List Record) (s : Step Record) (w v : ℕ) → Ascend rows → Looks need only rows xs → Looks need only rows ys → StepsTo s (due only skip xs) w (due only skip ys) v → StepMarks need only rows s (open_in xs skip) (open_in ys skip)
+step_marks need only rows skip xs ys (Row r) w v asc lx ly step = found_marks need only rows skip xs ys r asc lx ly step.0
 step_marks need only rows skip xs ys Working w v asc lx ly step = λ n q. sym (due_has need only rows skip ys n asc ly.each q) ∙ ap (has_row n) step.0 ∙ due_has need only rows skip xs n asc lx.each q
 step_marks need only rows skip xs ys End w v asc lx ly step = (none_due need only rows skip xs asc lx step.0, none_due need only rows skip ys asc ly step.1)
 
@@ -159,8 +159,8 @@ rows_looks need only rows k asc = record {
     stands (x ∷ xs) a = (record { row = x; there = a.0; agrees = λ c h. refl; wide = λ c h l. l; same = refl }, stands xs a.1)
 
 -- Marks by tests that tell the same.
-pub marks_move : (need : List ℕ) (only : List (List Atom)) (rows : List Record) (s : Scanned) (old new o n : ℕ → Bool) → Ascend rows → Agree only rows old o → Agree only rows new n → StepMarks need only rows s old new → StepMarks need only rows s o n
-marks_move need only rows (Found r) old new o n asc a b m =
+pub marks_move : (need : List ℕ) (only : List (List Atom)) (rows : List Record) (s : Step Record) (old new o n : ℕ → Bool) → Ascend rows → Agree only rows old o → Agree only rows new n → StepMarks need only rows s old new → StepMarks need only rows s o n
+marks_move need only rows (Row r) old new o n asc a b m =
     let q = told_by only rows r.row.0 m.taken asc m.there ∙ m.qualifies in
     record {
       taken = m.taken;

@@ -15,8 +15,8 @@ use Rattle.rv_judge.specs.Tracing.{CountsRise, SameCounts, counted}
 use Rattle.rv_restrict.specs.declared.atom.Atom.{Atom}
 use Rattle.rv_reader.specs.Shown.{Shown}
 use Rattle.rv_scan.specs.Places.{Place, unseen}
-use Rattle.rv_scan.specs.declared.skip.Scanned.{Scanned}
-use Rattle.rv_scan.specs.declared.skip.Scanned.TheVariants.{Found, Working, End}
+use Rattle.rv_reader.specs.declared.step.Step.{Step}
+use Rattle.rv_reader.specs.declared.step.Step.TheVariants.{Row, Working, End}
 use Rattle.rv_final.specs.Rest.{StepMarks, Steps, has_row, qualifies_at, rest_by}
 use Rattle.rv_final.specs.Stage.{LastFits, Unbegun, keys_left, list_left, own_pages, own_rows, table_left}
 use Rattle.rv_final.specs.Work.{Tries}
@@ -35,8 +35,8 @@ final_done s c (inl e) = ap (λ (x : Control). next_control s x FinalEnded) e
 final_done s c (inr e) = ap (λ (x : Control). next_control s x FinalEnded) e
 
 -- what is said of an end alone is said of every step that goes on
-pub ends_by : {E : Type 0} (r : Result Scanned E) (P Q : Scanned → Type 0) → ((x : Record) → Q (Found x)) → Q Working → (P End → Q End) → IfOk r P → IfOk r Q
-ends_by (Ok (Found x)) P Q found working ends h = found x
+pub ends_by : {E : Type 0} (r : Result (Step Record) E) (P Q : Step Record → Type 0) → ((x : Record) → Q (Row x)) → Q Working → (P End → Q End) → IfOk r P → IfOk r Q
+ends_by (Ok (Row x)) P Q found working ends h = found x
 ends_by (Ok Working) P Q found working ends h = working
 ends_by (Ok End) P Q found working ends h = ends h
 ends_by (Err x) P Q found working ends h = tt
@@ -50,7 +50,7 @@ put_then part put go mid new kept m n =
 -- THE REST
 
 -- a step said of each row number is one of the rest
-pub steps_by : (need : List ℕ) (only : List (List Atom)) (rows : List Record) (s : Scanned) (was is : ℕ → Bool) (old new : List Record) → old ≡ rest_by was only rows → new ≡ rest_by is only rows → Ascend rows → StepMarks need only rows s was is → Steps need [] s old new
+pub steps_by : (need : List ℕ) (only : List (List Atom)) (rows : List Record) (s : Step Record) (was is : ℕ → Bool) (old new : List Record) → old ≡ rest_by was only rows → new ≡ rest_by is only rows → Ascend rows → StepMarks need only rows s was is → Steps need [] s old new
 steps_by need only rows s was is old new o n asc marks =
     let step = marks_steps need [] only rows s was is asc refl marks in
     subst (λ (x : List Record). Steps need [] s x new) (sym o) (subst (λ (x : List Record). Steps need [] s (rest_by was only rows) x) (sym n) step)

@@ -13,8 +13,9 @@ use Rattle.rv_jscan.specs.Lanes.{IsLeafAt, Laned, passed}
 use Rattle.rv_jscan.specs.Pieces.{Pieced, is_kept, kept_by}
 use Rattle.rv_jscan.specs.Steps.{HasEntries, held_next}
 use Rattle.rv_final.specs.Work.{Falls, Tries}
-use Rattle.rv_scan.specs.declared.skip.Scanned.{Scanned}
-use Rattle.rv_scan.specs.declared.skip.Scanned.TheVariants.{Found, Working, End}
+use Rattle.rv_reader.specs.declared.step.Step.{Step}
+use Rattle.rv_value.specs.declared.record.Record.{Record}
+use Rattle.rv_reader.specs.declared.step.Step.TheVariants.{Row, Working, End}
 use Rattle.rv_final.specs.LaneWork.{Spends, ahead, lane_work, to_read}
 
 -- a scan has a leaf ahead
@@ -77,7 +78,7 @@ tries_on before middle after old mid new t e l =
     let same = ap reads e in
     record { once = omega arith; less = omega arith }
 
-pub spends_by : {E : Type 0} (r : Result Scanned E) (before after : Counts) (old new : ℕ) → Tries before after old new → IfOk r (λ s. Falls s before after old new) → IfOk r (λ s. Spends s before after old new)
+pub spends_by : {E : Type 0} (r : Result (Step Record) E) (before after : Counts) (old new : ℕ) → Tries before after old new → IfOk r (λ s. Falls s before after old new) → IfOk r (λ s. Spends s before after old new)
 spends_by (Err x) before after old new t f = tt
 spends_by (Ok s) before after old new t f = by s f
   where
@@ -87,7 +88,7 @@ spends_by (Ok s) before after old new t f = by s f
     less : new ≤ old
     less = t.less
 
-    by : (s : Scanned) → Falls s before after old new → Spends s before after old new
-    by (Found r) f = (omega (arith, once), f)
+    by : (s : Step Record) → Falls s before after old new → Spends s before after old new
+    by (Row r) f = (omega (arith, once), f)
     by Working f = (omega (arith, once), f)
-    by End f = let same = ap reads f in omega (arith, less)
+    by End f = let same = ap reads f in (omega (arith, less), less)

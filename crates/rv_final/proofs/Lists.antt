@@ -15,8 +15,8 @@ use Rattle.rv_judge.specs.declared.counting.Counts.{Counts}
 use Rattle.rv_restrict.specs.declared.atom.Atom.{Atom}
 use Rattle.rv_restrict.specs.Truth.{qualifies}
 use Rattle.rv_reader.specs.Tables.{row_at}
-use Rattle.rv_scan.specs.declared.skip.Scanned.{Scanned}
-use Rattle.rv_scan.specs.declared.skip.Scanned.TheVariants.{Found, Working, End}
+use Rattle.rv_reader.specs.declared.step.Step.{Step}
+use Rattle.rv_reader.specs.declared.step.Step.TheVariants.{Row, Working, End}
 use Rattle.rv_scan.specs.Alongs.{looked}
 use Rattle.rv_scan.specs.Due.{was_delivered}
 use Rattle.rv_final.specs.Rest.{StepMarks}
@@ -97,26 +97,26 @@ ends_fetches list delivered at only rows c f = subst (λ (k : Option ℕ). Fetch
 
 -- The row of the next key is fetched.
 
-list_fetched : (need : List ℕ) (only : List (List Atom)) (rows : List Record) (list delivered : Option (List ℕ)) (at mid k : ℕ) (s : Scanned) → Ascend rows → PassesKeys list delivered at mid → NextKey list mid k → was_delivered delivered k ≡ false → s ≡ looked only (row_at rows k) → StepMarks need only rows s (list_left list delivered at) (list_left list delivered (mid + 1))
+list_fetched : (need : List ℕ) (only : List (List Atom)) (rows : List Record) (list delivered : Option (List ℕ)) (at mid k : ℕ) (s : Step Record) → Ascend rows → PassesKeys list delivered at mid → NextKey list mid k → was_delivered delivered k ≡ false → s ≡ looked only (row_at rows k) → StepMarks need only rows s (list_left list delivered at) (list_left list delivered (mid + 1))
 list_fetched need only rows list delivered at mid k s asc p key fresh is =
     let keys = keys_left list (mid + 1) in
     let here : list_left list delivered mid k ≡ true = ap (λ (ks : List ℕ). has_key k ks && not (was_delivered delivered k)) key.split ∙ both_true (nat_eq k k) (has_key k keys) (was_delivered delivered k) (same_number k) fresh in
     let marks : StepMarks need only rows (looked only (row_at rows k)) (list_left list delivered mid) (list_left list delivered (mid + 1)) = fetched_marks need only rows (list_left list delivered mid) (list_left list delivered (mid + 1)) k (row_at rows k) asc refl here (λ n q. key_agree k keys delivered n key.gone ∙ ap (λ (ks : List ℕ). (has_key n ks && not (was_delivered delivered n)) && not (nat_eq n k)) (sym key.split)) in
     let moved = marks_move need only rows (looked only (row_at rows k)) (list_left list delivered mid) (list_left list delivered (mid + 1)) (list_left list delivered at) (list_left list delivered (mid + 1)) asc (λ n q. sym (p.same n)) (λ n q. refl) marks in
-    subst (λ (x : Scanned). StepMarks need only rows x (list_left list delivered at) (list_left list delivered (mid + 1))) (sym is) moved
+    subst (λ (x : Step Record). StepMarks need only rows x (list_left list delivered at) (list_left list delivered (mid + 1))) (sym is) moved
   where
     both_true : (a b c : Bool) → a ≡ true → c ≡ false → ((a || b) && not c) ≡ true
     both_true a b c h i = grind arith
 
-pub key_marks : (need : List ℕ) (only : List (List Atom)) (rows : List Record) (list delivered : Option (List ℕ)) (at k : ℕ) (mid new : Staged) (s : Scanned) → Ascend rows → PassesKeys list delivered at mid.at → NextKey list mid.at k → was_delivered delivered k ≡ false → new ≡ record mid { at = mid.at + 1 } → s ≡ looked only (row_at rows k) → StepMarks need only rows s (list_left list delivered at) (list_left list delivered new.at)
+pub key_marks : (need : List ℕ) (only : List (List Atom)) (rows : List Record) (list delivered : Option (List ℕ)) (at k : ℕ) (mid new : Staged) (s : Step Record) → Ascend rows → PassesKeys list delivered at mid.at → NextKey list mid.at k → was_delivered delivered k ≡ false → new ≡ record mid { at = mid.at + 1 } → s ≡ looked only (row_at rows k) → StepMarks need only rows s (list_left list delivered at) (list_left list delivered new.at)
 key_marks need only rows list delivered at k mid new s asc p key fresh n is = subst (λ (i : ℕ). StepMarks need only rows s (list_left list delivered at) (list_left list delivered i)) (sym (ap (λ (x : Staged). x.at) n)) (list_fetched need only rows list delivered at mid.at k s asc p key fresh is)
 
-pub key_fetches : (list delivered : Option (List ℕ)) (at k : ℕ) (only : List (List Atom)) (rows : List Record) (c d : Counts) (s : Scanned) → first_key list delivered at ≡ Some k → d ≡ record_read c → s ≡ looked only (row_at rows k) → FetchesKey (first_key list delivered at) only rows c d s
+pub key_fetches : (list delivered : Option (List ℕ)) (at k : ℕ) (only : List (List Atom)) (rows : List Record) (c d : Counts) (s : Step Record) → first_key list delivered at ≡ Some k → d ≡ record_read c → s ≡ looked only (row_at rows k) → FetchesKey (first_key list delivered at) only rows c d s
 key_fetches list delivered at k only rows c d s f e is = subst (λ (x : Option ℕ). FetchesKey x only rows c d s) (sym f) (e, is)
 
--- the row that was found is looked at, and given
-pub given_is : (only : List (List Atom)) (rows : List Record) (k : ℕ) (found kept : Option Record) (s : Scanned) → found ≡ row_at rows k → given_as kept ≡ looked only found → s ≡ given_as kept → s ≡ looked only (row_at rows k)
-given_is only rows k found kept s row look give = give ∙ look ∙ ap (looked only) row
+-- the row that was found is looked at
+pub looked_at : (only : List (List Atom)) (rows : List Record) (k : ℕ) (found : Option Record) (s : Step Record) → found ≡ row_at rows k → s ≡ looked only found → s ≡ looked only (row_at rows k)
+looked_at only rows k found s row look = look ∙ ap (looked only) row
 
 -- What is read, and what is left.
 
@@ -149,17 +149,17 @@ key_tries list at k mid new c d key fewer n r = record { once = one_read c d r; 
 pub wanting_tries : (old new : ℕ) (c d : Counts) → new ≤ old → d ≡ record_read c → Tries c d old new
 wanting_tries old new c d fewer r = record { once = one_read c d r; less = fewer }
 
-falls_as : (s : Scanned) (o : Option Record) (only : List (List Atom)) (c d : Counts) (old new : ℕ) → s ≡ looked only o → new < old → Falls s c d old new
-falls_as (Found r) o only c d old new is less = less
+falls_as : (s : Step Record) (o : Option Record) (only : List (List Atom)) (c d : Counts) (old new : ℕ) → s ≡ looked only o → new < old → Falls s c d old new
+falls_as (Row r) o only c d old new is less = less
 falls_as Working o only c d old new is less = less
 falls_as End None only c d old new is less = let bad : End ≡ Working = is in absurd (cc)
 falls_as End (Some r) only c d old new is less = by (qualifies only r.values) is
   where
-    by : (b : Bool) → End ≡ (if b then Found r else Working) → d ≡ c
-    by true is = let bad : End ≡ Found r = is in absurd (cc)
+    by : (b : Bool) → End ≡ (if b then Row r else Working) → d ≡ c
+    by true is = let bad : End ≡ Row r = is in absurd (cc)
     by false is = let bad : End ≡ Working = is in absurd (cc)
 
-pub key_falls : (list : Option (List ℕ)) (at k : ℕ) (only : List (List Atom)) (o : Option Record) (mid new : Staged) (c d : Counts) (s : Scanned) → NextKey list mid.at k → length (keys_left list mid.at) ≤ length (keys_left list at) → new ≡ record mid { at = mid.at + 1 } → s ≡ looked only o → Falls s c d (length (keys_left list at)) (length (keys_left list new.at))
+pub key_falls : (list : Option (List ℕ)) (at k : ℕ) (only : List (List Atom)) (o : Option Record) (mid new : Staged) (c d : Counts) (s : Step Record) → NextKey list mid.at k → length (keys_left list mid.at) ≤ length (keys_left list at) → new ≡ record mid { at = mid.at + 1 } → s ≡ looked only o → Falls s c d (length (keys_left list at)) (length (keys_left list new.at))
 key_falls list at k only o mid new c d s key fewer n is = falls_as s o only c d (length (keys_left list at)) (length (keys_left list new.at)) is (let less = one_below list at k mid new key fewer n in omega arith)
 
 pub key_records : (list : Option (List ℕ)) (at k : ℕ) (mid new : Staged) (c d : Counts) → NextKey list mid.at k → length (keys_left list mid.at) ≤ length (keys_left list at) → new ≡ record mid { at = mid.at + 1 } → d ≡ record_read c → d.records + length (keys_left list new.at) ≤ c.records + length (keys_left list at)

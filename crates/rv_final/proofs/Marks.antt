@@ -9,8 +9,8 @@ use Rattle.rv_rows.specs.Rows.{Ascend}
 use Rattle.rv_restrict.specs.declared.atom.Atom.{Atom}
 use Rattle.rv_restrict.specs.Truth.{qualifies}
 use Rattle.rv_reader.specs.Tables.{row_at}
-use Rattle.rv_scan.specs.declared.skip.Scanned.{Scanned}
-use Rattle.rv_scan.specs.declared.skip.Scanned.TheVariants.{Found, Working, End}
+use Rattle.rv_reader.specs.declared.step.Step.{Step}
+use Rattle.rv_reader.specs.declared.step.Step.TheVariants.{Row, Working, End}
 use Rattle.rv_scan.specs.Alongs.{looked}
 use Rattle.rv_final.specs.Rest.{Agree, IsLeast, StepMarks, Steps, qualifies_at, rest_by}
 use Rattle.rv_final.proofs.Rests.{marks_out, no_rest, not_there, same_rest, told_by}
@@ -22,8 +22,8 @@ no_order r (x ∷ records) = no_order r records
 pub unordered : (order : List ℕ) (r : Record) (records : List Record) → order ≡ [] → IsLeast order r records
 unordered order r records e = subst (λ (o : List ℕ). IsLeast o r records) (sym e) (no_order r records)
 
-pub marks_steps : (need order : List ℕ) (only : List (List Atom)) (rows : List Record) (s : Scanned) (old new : ℕ → Bool) → Ascend rows → order ≡ [] → StepMarks need only rows s old new → Steps need order s (rest_by old only rows) (rest_by new only rows)
-marks_steps need order only rows (Found r) old new asc e m = (marks_out need only rows r old new asc m, unordered order r (rest_by old only rows) e)
+pub marks_steps : (need order : List ℕ) (only : List (List Atom)) (rows : List Record) (s : Step Record) (old new : ℕ → Bool) → Ascend rows → order ≡ [] → StepMarks need only rows s old new → Steps need order s (rest_by old only rows) (rest_by new only rows)
+marks_steps need order only rows (Row r) old new asc e m = (marks_out need only rows r old new asc m, unordered order r (rest_by old only rows) e)
 marks_steps need order only rows Working old new asc e m = same_rest only rows old new m
 marks_steps need order only rows End old new asc e m = (no_rest only rows old m.0, no_rest only rows new m.1)
 
@@ -41,7 +41,7 @@ fetched_marks need only rows old new k None asc f l a = without k (not_there onl
           | inr other ↦ a n q ∙ keeps (old n) (nat_eq n k) other
         ]
 fetched_marks need only rows old new k (Some r) asc f l a =
-    elim (qualifies only r.values) as (λ b. qualifies only r.values ≡ b → StepMarks need only rows (if b then Found r else Working) old new) [
+    elim (qualifies only r.values) as (λ b. qualifies only r.values ≡ b → StepMarks need only rows (if b then Row r else Working) old new) [
       | true ↦ λ p. let is : r.row.0 ≡ k = found_row rows k r f in record {
         taken = r;
         there = ap (row_at rows) is ∙ f;

@@ -8,8 +8,9 @@ use Rattle.rv_judge.specs.Counting.{reads}
 use Rattle.rv_reader.specs.declared.reader.Chunk.{Chunk}
 use Rattle.rv_reader.specs.Leaves.{leaves_from, run_from}
 use Rattle.rv_reader.specs.Shown.{Shown}
-use Rattle.rv_scan.specs.declared.skip.Scanned.{Scanned}
-use Rattle.rv_scan.specs.declared.skip.Scanned.TheVariants.{Found, Working, End}
+use Rattle.rv_reader.specs.declared.step.Step.{Step}
+use Rattle.rv_value.specs.declared.record.Record.{Record}
+use Rattle.rv_reader.specs.declared.step.Step.TheVariants.{Row, Working, End}
 use Rattle.rv_jscan.specs.declared.jscan.Given.{Given}
 use Rattle.rv_jscan.specs.declared.jscan.Given.TheVariants.{Accepted, Stale}
 use Rattle.rv_jscan.specs.declared.jscan.ScanPlan.{ScanPlan}
@@ -44,10 +45,10 @@ effort_by FinalTable scans keys table = table
 effort_by Done scans keys table = 0
 
 -- WHAT A STEP SPENDS: it lowers the effort by at least its reads, and unless it ends by at least one
-abbrev pub Spends : Scanned → Counts → Counts → ℕ → ℕ → Type 0
-Spends (Found r) before after old new = (reads after + new ≤ reads before + old) × (new < old)
+abbrev pub Spends : Step Record → Counts → Counts → ℕ → ℕ → Type 0
+Spends (Row r) before after old new = (reads after + new ≤ reads before + old) × (new < old)
 Spends Working before after old new = (reads after + new ≤ reads before + old) × (new < old)
-Spends End before after old new = reads after + new ≤ reads before + old
+Spends End before after old new = (reads after + new ≤ reads before + old) × (new ≤ old)
 
 -- an accepted piece lowers the effort; another one changes nothing
 abbrev pub GiveSpends : Given → ℕ → ℕ → Type 0

@@ -10,8 +10,8 @@ use Rattle.rv_restrict.specs.Parts.{stands_among}
 use Rattle.rv_restrict.specs.Truth.{qualifies}
 use Rattle.rv_reader.specs.Entries.{column_of}
 use Rattle.rv_reader.specs.Tables.{row_at}
-use Rattle.rv_scan.specs.declared.skip.Scanned.{Scanned}
-use Rattle.rv_scan.specs.declared.skip.Scanned.TheVariants.{Found, Working, End}
+use Rattle.rv_reader.specs.declared.step.Step.{Step}
+use Rattle.rv_reader.specs.declared.step.Step.TheVariants.{Row, Working, End}
 
 -- the records for which the restriction is True
 abbrev pub qualifying : List (List Atom) → List Record → List Record
@@ -62,8 +62,8 @@ IsLeast order r records =
     list_all (λ (x : Record). not (is_lt (values_cmp (order_of order x) (order_of order r)))) records ≡ true
 
 -- what a foreground step does to the rest
-abbrev pub Steps : List ℕ → List ℕ → Scanned → List Record → List Record → Type 0
-Steps need order (Found r) old new = TakesOut need r old new × IsLeast order r old
+abbrev pub Steps : List ℕ → List ℕ → Step Record → List Record → List Record → Type 0
+Steps need order (Row r) old new = TakesOut need r old new × IsLeast order r old
 Steps need order Working old new = new ≡ old
 Steps need order End old new = (old ≡ []) × (new ≡ [])
 
@@ -79,7 +79,7 @@ pub record Marks (need : List ℕ) (only : List (List Atom)) (rows : List Record
   pub others : Agree only rows (λ n. old n && not (nat_eq n r.row.0)) new
   pub wide : IsWide need r taken
 
-abbrev pub StepMarks : List ℕ → List (List Atom) → List Record → Scanned → (ℕ → Bool) → (ℕ → Bool) → Type 0
-StepMarks need only rows (Found r) old new = Marks need only rows r old new
+abbrev pub StepMarks : List ℕ → List (List Atom) → List Record → Step Record → (ℕ → Bool) → (ℕ → Bool) → Type 0
+StepMarks need only rows (Row r) old new = Marks need only rows r old new
 StepMarks need only rows Working old new = Agree only rows old new
 StepMarks need only rows End old new = Agree only rows (λ n. false) old × Agree only rows (λ n. false) new

@@ -11,8 +11,8 @@ use Rattle.rv_reader.specs.Tables.{row_at}
 use Rattle.rv_scan.specs.Alongs.{looked}
 use Rattle.rv_scan.specs.Due.{was_delivered}
 use Rattle.rv_scan.specs.Places.{Place, unseen, Fits as PlaceFits}
-use Rattle.rv_scan.specs.declared.skip.Scanned.{Scanned}
-use Rattle.rv_scan.specs.declared.skip.Scanned.TheVariants.{Found, Working, End}
+use Rattle.rv_reader.specs.declared.step.Step.{Step}
+use Rattle.rv_reader.specs.declared.step.Step.TheVariants.{Row, Working, End}
 use Rattle.rv_final.specs.Rest.{has_row}
 
 -- `at` counts the keys of the complete list that were passed, and `last` is the scan of the table
@@ -64,12 +64,12 @@ IsFirstKey list delivered at None = first_key list delivered at ≡ None
 IsFirstKey list delivered at (Some row) = first_key list delivered at ≡ Some row.0
 
 -- a row that qualifies, or none, as a step's answer
-abbrev pub given_as : Option Record → Scanned
+abbrev pub given_as : Option Record → Step Record
 given_as None = Working
-given_as (Some r) = Found r
+given_as (Some r) = Row r
 
 -- that key's row is fetched, and given exactly where it qualifies; where there is none it is the end
-abbrev pub FetchesKey : Option ℕ → List (List Atom) → List Record → Counts → Counts → Scanned → Type 0
+abbrev pub FetchesKey : Option ℕ → List (List Atom) → List Record → Counts → Counts → Step Record → Type 0
 FetchesKey None only rows c d s = (s ≡ End) × (d ≡ c)
 FetchesKey (Some key) only rows c d s = (d ≡ record_read c) × (s ≡ looked only (row_at rows key))
 

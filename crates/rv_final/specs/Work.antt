@@ -2,8 +2,9 @@
 use Rattle.std.specs.Prelude.{◌≡◌, ℕ, ◌+◌, ◌<◌, ◌≤◌}
 use Rattle.rv_judge.specs.declared.counting.Counts.{Counts}
 use Rattle.rv_judge.specs.Counting.{reads}
-use Rattle.rv_scan.specs.declared.skip.Scanned.{Scanned}
-use Rattle.rv_scan.specs.declared.skip.Scanned.TheVariants.{Found, Working, End}
+use Rattle.rv_reader.specs.declared.step.Step.{Step}
+use Rattle.rv_value.specs.declared.record.Record.{Record}
+use Rattle.rv_reader.specs.declared.step.Step.TheVariants.{Row, Working, End}
 
 -- a call reads at most once, and does not raise the effort
 pub record Tries (before after : Counts) (old new : ℕ) : Type 0 where
@@ -11,7 +12,7 @@ pub record Tries (before after : Counts) (old new : ℕ) : Type 0 where
   pub less : new ≤ old
 
 -- a step lowers the effort unless it ends, and reads nothing where it ends
-abbrev pub Falls : Scanned → Counts → Counts → ℕ → ℕ → Type 0
-Falls (Found r) before after old new = new < old
+abbrev pub Falls : Step Record → Counts → Counts → ℕ → ℕ → Type 0
+Falls (Row r) before after old new = new < old
 Falls Working before after old new = new < old
 Falls End before after old new = after ≡ before

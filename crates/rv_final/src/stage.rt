@@ -17,9 +17,9 @@ ghost use Rattle.rv_scan.specs.Reads.{OneAtMost};
 
 use rv_judge::Steps;
 use rv_keylist::{Delivered, KeyList};
-use rv_reader::Reader;
+use rv_reader::{Reader, Step};
 use rv_restrict::{Restriction, Tri};
-use rv_scan::{Scanned, Skip, Tscan};
+use rv_scan::{Skip, Tscan, look};
 use rv_value::{NoMemory, Record, RowNo};
 use std::alloc::Global;
 use std::marker::Model;
@@ -42,7 +42,7 @@ impl Model for Final {
 }
 
 /// A record that was found, where it qualifies.
-fn look(found: Option<Record>, only: &Restriction) -> Option<Record>
+fn kept(found: Option<Record>, only: &Restriction) -> Option<Record>
     requires { IfSome found (λ r. names_only (row_has r.values) only.now ≡ true) }
     ensures { given_as result ≡ looked only.now found }
 {
@@ -74,16 +74,7 @@ pub fn examine<R: Reader>(
     ensures reads { steps.new ≡ record_read steps.old }
 {
     let found = reader.fetch(alloc, table, snap, row, steps)?;
-    Ok(look(found, only))
-}
-
-fn given(found: Option<Record>) -> Scanned
-    ensures { result ≡ given_as found }
-{
-    match found {
-        Some(found) => Scanned::Found(found),
-        None => Scanned::Working,
-    }
+    Ok(kept(found, only))
 }
 
 fn key_of(list: &KeyList, at: u64) -> Option<RowNo>
@@ -173,7 +164,7 @@ impl Final {
         list: Option<&KeyList>,
         delivered: Option<&Delivered>,
         steps: &mut Steps<R::Ledger>,
-    ) -> Result<Scanned, NoMemory>
+    ) -> Result<Step<Record>, NoMemory>
         requires can { CanRead (R.shown reader.now) table snap }
         requires ascend { Ascend ((R.shown reader.now).rows table snap) }
         requires columns { HaveColumns only.now ((R.shown reader.now).rows table snap) }
@@ -188,11 +179,11 @@ impl Final {
         ensures pages { steps.new.pages ≡ steps.old.pages }
     {
         match self.next_left(list, delivered) {
-            None => Ok(Scanned::End),
+            None => Ok(Step::End),
             Some(row) => match reader.fetch(self.alloc(), table, snap, row, steps) {
                 Ok(found) => {
                     self.pass_key();
-                    Ok(given(look(found, only)))
+                    Ok(look(found, only))
                 }
                 Err(NoMemory) => Err(NoMemory),
             },
@@ -207,7 +198,7 @@ impl Final {
         only: &Restriction,
         delivered: Option<&Delivered>,
         steps: &mut Steps<R::Ledger>,
-    ) -> Result<Scanned, NoMemory>
+    ) -> Result<Step<Record>, NoMemory>
         requires can { CanRead (R.shown reader.now) self.old.last.table self.old.last.snap }
         requires ascend { Ascend (own_rows self.old.last (R.shown reader.now)) }
         requires columns { HaveColumns only.now (own_rows self.old.last (R.shown reader.now)) }

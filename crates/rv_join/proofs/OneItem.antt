@@ -12,7 +12,8 @@ use Rattle.rv_restrict.proofs.Widths.{bound_widths}
 use Rattle.rv_reader.specs.Shown.{Shown}
 use Rattle.rv_jscan.specs.declared.jscan.Given.{Given}
 use Rattle.rv_jscan.specs.declared.jscan.Given.TheVariants.{Accepted, Stale}
-use Rattle.rv_retrieval.specs.declared.steps.Fg.{Fg}
+use Rattle.rv_reader.specs.declared.step.Step.{Step}
+use Rattle.rv_value.specs.declared.record.Record.{Record}
 use Rattle.rv_retrieval.specs.Effort.{GiveSpends, cuts_and_entries, life_of as retrieval_life}
 use Rattle.rv_retrieval.specs.Short.{has_short}
 use Rattle.rv_final.specs.Work.{Tries}
@@ -29,7 +30,6 @@ use Rattle.rv_access.proofs.Chosen.{chosen_apart, no_union, raced_strategy}
 use Rattle.rv_access.proofs.Counting.{OneUp, may_up, same_up}
 use Rattle.rv_reader.specs.declared.step.Step.TheVariants.{Row, Working, End}
 use Rattle.rv_join.specs.declared.level.Level.{Level}
-use Rattle.rv_reader.specs.declared.step.Step.{Step}
 use Rattle.rv_join.specs.Alone.{CallsOnce, Fetches, FewFetches, FgCalls, IsAlone, LevelSpends, MovedSpends, PlanSpends, Spends, StepsOnce, TakesOnce, level_effort}
 use Rattle.rv_catalog.specs.declared.def.IndexDef.{IndexDef}
 use Rattle.rv_catalog.specs.declared.def.Select.{Select}
@@ -48,7 +48,7 @@ use Rattle.rv_join.proofs.Accounting.{alone_above}
 
 -- Strategy and planned scans.
 
-fg_plans : (fg : Option Fg) (would : ℕ → Facts → Ruling) (state after : ℕ) (shown : Shown) (c d : Counts) (old new : Access) → FgCalls fg would state after shown c d old new → SamePlans old new
+fg_plans : (fg : Option (Step Record)) (would : ℕ → Facts → Ruling) (state after : ℕ) (shown : Shown) (c d : Counts) (old new : Access) → FgCalls fg would state after shown c d old new → SamePlans old new
 fg_plans (Some fg) would state after shown c d old new calls = steps_plans would state after shown c d fg old new calls.does
 fg_plans None would state after shown c d old new calls = course_plans old new (calls.wants refl).1
 
@@ -64,7 +64,7 @@ once_plans would state after shown c d old new calls = elim calls [
 never_none : {A X : Type 0} (x : A) → Some x ≡ None → X
 never_none x e = absurd (cc)
 
-pub ok_calls : (would : ℕ → Facts → Ruling) (state after : ℕ) (shown : Shown) (c d : Counts) (fg : Fg) (old new : Access) → StepsAs would state after shown c d fg old new → MayReadIts old c d → (Settled old → Settled new) → (Settled old → after ≡ state) → (Settled old → d.pages ≡ c.pages) → (Settled old → d.records + fetches_left new shown ≤ c.records + fetches_left old shown) → CallsOnce would state after shown c d old new
+pub ok_calls : (would : ℕ → Facts → Ruling) (state after : ℕ) (shown : Shown) (c d : Counts) (fg : Step Record) (old new : Access) → StepsAs would state after shown c d fg old new → MayReadIts old c d → (Settled old → Settled new) → (Settled old → after ≡ state) → (Settled old → d.pages ≡ c.pages) → (Settled old → d.records + fetches_left new shown ≤ c.records + fetches_left old shown) → CallsOnce would state after shown c d old new
 ok_calls would state after shown c d fg old new does reads settled unasked pages records = inl (
   Some fg,
   record {
@@ -143,10 +143,10 @@ moved_spends (Err e) c d old new spends = tt
 pub catch_err : (would : ℕ → Facts → Ruling) (state after : ℕ) (shown : Shown) (c d : Counts) (old : Level) (new : Access) → after ≡ state → SameCourse old.here new → OnlyTakes old.here new → MayReadIts old.here c d → fetches_left new shown ≤ fetches_left old.here shown → (Settled old.here → Settled new) → (Settled old.here → d.pages ≡ c.pages) → Tries c d (effort old.here shown) (effort new shown) → StepsOnce would state after shown c d old (record old { here = new })
 catch_err would state after shown c d old new quiet course takes reads fewer settled pages tries = record { calls = err_calls would state after shown c d old.here new quiet course takes reads fewer settled pages; tries = held_tries c d (effort new shown) (effort old.here shown) old.row old.row refl tries }
 
-pub catch_none : (would : ℕ → Facts → Ruling) (state after : ℕ) (shown : Shown) (c d : Counts) (fg : Fg) (old : Level) (new : Access) → StepsAs would state after shown c d fg old.here new → MayReadIts old.here c d → (Settled old.here → Settled new) → (Settled old.here → after ≡ state) → (Settled old.here → d.pages ≡ c.pages) → (Settled old.here → d.records + fetches_left new shown ≤ c.records + fetches_left old.here shown) → Tries c d (effort old.here shown) (effort new shown) → StepsOnce would state after shown c d old (record old { here = new })
+pub catch_none : (would : ℕ → Facts → Ruling) (state after : ℕ) (shown : Shown) (c d : Counts) (fg : Step Record) (old : Level) (new : Access) → StepsAs would state after shown c d fg old.here new → MayReadIts old.here c d → (Settled old.here → Settled new) → (Settled old.here → after ≡ state) → (Settled old.here → d.pages ≡ c.pages) → (Settled old.here → d.records + fetches_left new shown ≤ c.records + fetches_left old.here shown) → Tries c d (effort old.here shown) (effort new shown) → StepsOnce would state after shown c d old (record old { here = new })
 catch_none would state after shown c d fg old new does reads settled unasked pages records tries = record { calls = ok_calls would state after shown c d fg old.here new does reads settled unasked pages records; tries = held_tries c d (effort new shown) (effort old.here shown) old.row old.row refl tries }
 
-pub catch_row : (would : ℕ → Facts → Ruling) (state after : ℕ) (shown : Shown) (c d : Counts) (fg : Fg) (old : Level) (new : Access) (values : List Value) → old.row ≡ None → StepsAs would state after shown c d fg old.here new → MayReadIts old.here c d → (Settled old.here → Settled new) → (Settled old.here → after ≡ state) → (Settled old.here → d.pages ≡ c.pages) → (Settled old.here → d.records + fetches_left new shown ≤ c.records + fetches_left old.here shown) → Tries c d (effort old.here shown) (effort new shown) → effort new shown < effort old.here shown → StepsOnce would state after shown c d old (record { outer = old.outer; row = Some values; here = new })
+pub catch_row : (would : ℕ → Facts → Ruling) (state after : ℕ) (shown : Shown) (c d : Counts) (fg : Step Record) (old : Level) (new : Access) (values : List Value) → old.row ≡ None → StepsAs would state after shown c d fg old.here new → MayReadIts old.here c d → (Settled old.here → Settled new) → (Settled old.here → after ≡ state) → (Settled old.here → d.pages ≡ c.pages) → (Settled old.here → d.records + fetches_left new shown ≤ c.records + fetches_left old.here shown) → Tries c d (effort old.here shown) (effort new shown) → effort new shown < effort old.here shown → StepsOnce would state after shown c d old (record { outer = old.outer; row = Some values; here = new })
 catch_row would state after shown c d fg old new values none does reads settled unasked pages records tries less = record { calls = ok_calls would state after shown c d fg old.here new does reads settled unasked pages records; tries = row_tries c d (effort new shown) (effort old.here shown) old.row none tries less }
 
 -- Open levels.
@@ -223,7 +223,7 @@ fewer_kept c d left were kept = omega (arith, kept)
 fewer_read : (c d left were : ℕ) → d ≤ c + 1 → left ≤ were → d + left ≤ c + were + 1
 fewer_read c d left were most fewer = omega (arith, most, fewer)
 
-fg_fewer : (fg : Option Fg) (would : ℕ → Facts → Ruling) (state after : ℕ) (shown : Shown) (c d : Counts) (old new : Access) → d.records ≤ c.records + 1 → FgCalls fg would state after shown c d old new → Settled old → d.records + fetches_left new shown ≤ c.records + fetches_left old shown + 1
+fg_fewer : (fg : Option (Step Record)) (would : ℕ → Facts → Ruling) (state after : ℕ) (shown : Shown) (c d : Counts) (old new : Access) → d.records ≤ c.records + 1 → FgCalls fg would state after shown c d old new → Settled old → d.records + fetches_left new shown ≤ c.records + fetches_left old shown + 1
 fg_fewer (Some fg) would state after shown c d old new most calls s = fewer_kept c.records d.records (fetches_left new shown) (fetches_left old shown) (calls.records s)
 fg_fewer None would state after shown c d old new most calls s = fewer_read c.records d.records (fetches_left new shown) (fetches_left old shown) most (calls.fewer refl)
 

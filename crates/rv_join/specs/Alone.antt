@@ -9,7 +9,8 @@ use Rattle.rv_judge.specs.Verdicts.{Ruling}
 use Rattle.rv_catalog.specs.declared.def.IndexDef.{IndexDef}
 use Rattle.rv_catalog.specs.declared.def.Select.{Select}
 use Rattle.rv_reader.specs.Shown.{Shown}
-use Rattle.rv_retrieval.specs.declared.steps.Fg.{Fg}
+use Rattle.rv_reader.specs.declared.step.Step.{Step}
+use Rattle.rv_value.specs.declared.record.Record.{Record}
 use Rattle.rv_retrieval.specs.Effort.{cuts_and_entries}
 use Rattle.rv_final.specs.Work.{Tries}
 use Rattle.rv_retrieval.specs.Short.{OnlyLeaves}
@@ -18,7 +19,6 @@ use Rattle.rv_access.specs.Accesses.{Settled, effort, fetches_left}
 use Rattle.rv_access.specs.Given.{TakesLeaf}
 use Rattle.rv_access.specs.Opened.{lives}
 use Rattle.rv_access.specs.Stepping.{MayReadIts, OnlyTakes, SameCourse, StepsAs}
-use Rattle.rv_reader.specs.declared.step.Step.{Step}
 use Rattle.rv_model.specs.declared.state.Offer.{Offer}
 use Rattle.rv_reader.specs.declared.step.Step.TheVariants.{Row, Working, End}
 use Rattle.rv_join.specs.declared.level.Level.{Level}
@@ -35,7 +35,7 @@ IsAlone p = length p.asked.items ≡ 1
 -- A step of the retrieval was made, which answered this, or for which memory was wanting: it did and read what a
 -- foreground step does and may read, and asked the judge as one does; without memory it may have taken a leaf, and
 -- accepted no piece. Where a short index was scanned at opening it asked no judge and read no page.
-pub record FgCalls (fg : Option Fg) (would : ℕ → Facts → Ruling) (state after : ℕ) (shown : Shown) (c d : Counts)
+pub record FgCalls (fg : Option (Step Record)) (would : ℕ → Facts → Ruling) (state after : ℕ) (shown : Shown) (c d : Counts)
     (old new : Access) : Type 0 where
   pub does : IfSome fg (λ s. StepsAs would state after shown c d s old new)
   pub wants : fg ≡ None → (after ≡ state) × SameCourse old new × OnlyTakes old new
@@ -52,7 +52,7 @@ pub record Fetches (shown : Shown) (c d : Counts) (old new : Access) : Type 0 wh
 -- a step was made, or nothing was done
 abbrev pub CallsOnce : (ℕ → Facts → Ruling) → ℕ → ℕ → Shown → Counts → Counts → Access → Access → Type 0
 CallsOnce would state after shown c d old new =
-    ((fg : Option Fg) × FgCalls fg would state after shown c d old new) ⊎ ((new ≡ old) × (d ≡ c) × (after ≡ state))
+    ((fg : Option (Step Record)) × FgCalls fg would state after shown c d old new) ⊎ ((new ≡ old) × (d ≡ c) × (after ≡ state))
 
 -- THE EFFORT OF A PLAN OVER ONE FROM ITEM: that of its retrieval, and one for a row that is held
 abbrev pub level_effort : Shown → Level → ℕ

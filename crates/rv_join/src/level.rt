@@ -21,7 +21,6 @@ use rv_judge::{Control, Judge, Steps};
 use rv_model::Offer;
 use rv_reader::{Reader, Step};
 use rv_restrict::ColRef;
-use rv_retrieval::Fg;
 use rv_value::{Duplicate, Items, NoMemory, Record, Value, Values, copy_slice, copy_slice_in};
 use std::alloc::Global;
 use std::mem;
@@ -274,13 +273,13 @@ impl Level {
             return Ok(Step::Row(()));
         }
         match self.here.fg_step(reader, judge, steps)? {
-            Fg::Row(record) => {
+            Step::Row(record) => {
                 let Record { row: _, values } = record;
                 let _before = self.row.replace(values);
                 Ok(Step::Row(()))
             }
-            Fg::End => Ok(Step::End),
-            Fg::Working => Ok(Step::Working),
+            Step::End => Ok(Step::End),
+            Step::Working => Ok(Step::Working),
         }
     }
 

@@ -8,8 +8,9 @@ use Rattle.rv_judge.specs.declared.judging.Facts.{Facts}
 use Rattle.rv_judge.specs.Tracing.{CountsRise, SameCounts, counted}
 use Rattle.rv_judge.specs.Verdicts.{Ruling}
 use Rattle.rv_reader.specs.Shown.{Shown}
-use Rattle.rv_scan.specs.declared.skip.Scanned.{Scanned}
-use Rattle.rv_scan.specs.declared.skip.Scanned.TheVariants.{End}
+use Rattle.rv_reader.specs.declared.step.Step.{Step}
+use Rattle.rv_value.specs.declared.record.Record.{Record}
+use Rattle.rv_reader.specs.declared.step.Step.TheVariants.{End}
 use Rattle.rv_jscan.specs.declared.jscan.Given.{Given}
 use Rattle.rv_jscan.specs.declared.jscan.ScanCounts.{ScanCounts}
 use Rattle.rv_jscan.specs.Pieces.{Pieced}
@@ -56,25 +57,25 @@ stays_steady r shown f = stage_steady r (stage_of r) shown f
 
 -- What was read is counted.
 
-pub counted_does : {E : Type 0} (r : Result Scanned E) (would : ℕ → Facts → Ruling) (state after : ℕ) (shown : Shown) (c d : Counts) (old mid new : Raced) → IfOk r (λ s. Does would state after shown c d s old mid) → new ≡ record mid { trace = counted mid.trace c d } → IfOk r (λ s. StepsAs would state after shown c d s old new)
+pub counted_does : {E : Type 0} (r : Result (Step Record) E) (would : ℕ → Facts → Ruling) (state after : ℕ) (shown : Shown) (c d : Counts) (old mid new : Raced) → IfOk r (λ s. Does would state after shown c d s old mid) → new ≡ record mid { trace = counted mid.trace c d } → IfOk r (λ s. StepsAs would state after shown c d s old new)
 counted_does (Ok s) would state after shown c d old mid new does e = record { stepped = mid; does = does; counts = e }
 counted_does (Err x) would state after shown c d old mid new does e = tt
 
-pub step_if : {E : Type 0} (r : Result Scanned E) (old mid new : Raced) (t : Trace) (shown : Shown) → new ≡ record mid { trace = t } → IfOk r (DoesStep old mid shown) → IfOk r (DoesStep old new shown)
+pub step_if : {E : Type 0} (r : Result (Step Record) E) (old mid new : Raced) (t : Trace) (shown : Shown) → new ≡ record mid { trace = t } → IfOk r (DoesStep old mid shown) → IfOk r (DoesStep old new shown)
 step_if (Ok s) old mid new t shown e step = λ need. subst (λ (x : Raced). Steps need [] s (rest old shown) (rest x shown)) (sym e) (step need)
 step_if (Err x) old mid new t shown e step = tt
 
-pub ends_if : {E : Type 0} (r : Result Scanned E) (mid new : Raced) (t : Trace) → new ≡ record mid { trace = t } → IfOk r (EndsIn mid) → IfOk r (EndsIn new)
+pub ends_if : {E : Type 0} (r : Result (Step Record) E) (mid new : Raced) (t : Trace) → new ≡ record mid { trace = t } → IfOk r (EndsIn mid) → IfOk r (EndsIn new)
 ends_if r mid new t e ends = ends_by r (EndsIn mid) (EndsIn new) (λ x. tt) tt (λ h. ap (λ (x : Raced). x.control) e ∙ h) ends
 
-pub rest_if : {E : Type 0} (r : Result Scanned E) (old mid new : Raced) (t : Trace) (shown : Shown) → new ≡ record mid { trace = t } → OnErr r (rest mid shown ≡ rest old shown) → OnErr r (rest new shown ≡ rest old shown)
+pub rest_if : {E : Type 0} (r : Result (Step Record) E) (old mid new : Raced) (t : Trace) (shown : Shown) → new ≡ record mid { trace = t } → OnErr r (rest mid shown ≡ rest old shown) → OnErr r (rest new shown ≡ rest old shown)
 rest_if (Ok s) old mid new t shown e h = tt
 rest_if (Err x) old mid new t shown e h = ap (λ (y : Raced). rest y shown) e ∙ h
 
 pub counted_tries : (c d : Counts) (old : ℕ) (mid new : Raced) (t : Trace) (shown : Shown) → new ≡ record mid { trace = t } → Tries c d old (effort mid shown) → Tries c d old (effort new shown)
 counted_tries c d old mid new t shown e tries = subst (λ (x : Raced). Tries c d old (effort x shown)) (sym e) tries
 
-pub falls_if : {E : Type 0} (r : Result Scanned E) (c d : Counts) (old : ℕ) (mid new : Raced) (t : Trace) (shown : Shown) → new ≡ record mid { trace = t } → IfOk r (λ s. Falls s c d old (effort mid shown)) → IfOk r (λ s. Falls s c d old (effort new shown))
+pub falls_if : {E : Type 0} (r : Result (Step Record) E) (c d : Counts) (old : ℕ) (mid new : Raced) (t : Trace) (shown : Shown) → new ≡ record mid { trace = t } → IfOk r (λ s. Falls s c d old (effort mid shown)) → IfOk r (λ s. Falls s c d old (effort new shown))
 falls_if (Ok s) c d old mid new t shown e falls = subst (λ (x : Raced). Falls s c d old (effort x shown)) (sym e) falls
 falls_if (Err x) c d old mid new t shown e falls = tt
 

@@ -19,8 +19,8 @@ use Rattle.rv_reader.specs.Shown.{Shown, CanRead}
 use Rattle.rv_scan.specs.Due.{HaveColumns}
 use Rattle.rv_scan.specs.Places.{Fits as PlaceFits, PageReads, PageTurns, Place, work}
 use Rattle.rv_scan.specs.Reads.{OneAtMost}
-use Rattle.rv_scan.specs.declared.skip.Scanned.{Scanned}
-use Rattle.rv_scan.specs.declared.skip.Scanned.TheVariants.{Found, Working, End}
+use Rattle.rv_reader.specs.declared.step.Step.{Step}
+use Rattle.rv_reader.specs.declared.step.Step.TheVariants.{Row, Working, End}
 use Rattle.rv_jscan.specs.declared.jscan.ScanPlan.{ScanPlan}
 use Rattle.rv_jscan.specs.declared.jscan.Given.TheVariants.{Accepted}
 use Rattle.rv_jscan.specs.Joint.{no_counts, plan_at}
@@ -87,18 +87,18 @@ pub record Steady (old new : Raced) (shown : Shown) : Type 0 where
   pub tells : Tells old → Tells new
 
 -- WHAT A STEP DOES TO THE REST: it takes one record out, or leaves it, or it is empty
-abbrev pub DoesStep : Raced → Raced → Shown → Scanned → Type 0
+abbrev pub DoesStep : Raced → Raced → Shown → Step Record → Type 0
 DoesStep old new shown scanned = (need : List ℕ) → Steps need [] scanned (rest old shown) (rest new shown)
 
 -- an end leads to the last control
-abbrev pub EndsIn : Raced → Scanned → Type 0
-EndsIn r (Found record_found) = Unit {0}
+abbrev pub EndsIn : Raced → Step Record → Type 0
+EndsIn r (Row record_found) = Unit {0}
 EndsIn r Working = Unit {0}
 EndsIn r End = r.control ≡ Done
 
 -- a source at its end leads to the last control
-abbrev pub ended_by : Scanned → Raced → Raced
-ended_by (Found record_found) r = r
+abbrev pub ended_by : Step Record → Raced → Raced
+ended_by (Row record_found) r = r
 ended_by Working r = r
 ended_by End r = gone FinalEnded r
 
@@ -114,7 +114,7 @@ pub record OnePiece (would : ℕ → Facts → Ruling) (state after : ℕ) (old 
 -- WHAT A STEP DOES AND READS, by the control: one piece, upon which the judge is asked and obeyed as by a give; the
 -- fetch of the next key of the complete list, which is then behind it; a step through the table, where a page that is
 -- read was there and is then behind it; or nothing
-abbrev pub DoesAs : Control → (ℕ → Facts → Ruling) → ℕ → ℕ → Shown → Counts → Counts → Scanned → Raced → Raced → Type 0
+abbrev pub DoesAs : Control → (ℕ → Facts → Ruling) → ℕ → ℕ → Shown → Counts → Counts → Step Record → Raced → Raced → Type 0
 DoesAs Building would state after shown c d s old new = ⊥
 DoesAs ForegroundAlone would state after shown c d s old new = ⊥
 DoesAs BackgroundAlone would state after shown c d s old new =
@@ -127,7 +127,7 @@ DoesAs FinalTable would state after shown c d s old new =
     × PageTurns s old.last new.last (shown.pages old.table old.snap)
 DoesAs Done would state after shown c d s old new = (after ≡ state) × (s ≡ End) × (d ≡ c) × (new ≡ old)
 
-abbrev pub Does : (ℕ → Facts → Ruling) → ℕ → ℕ → Shown → Counts → Counts → Scanned → Raced → Raced → Type 0
+abbrev pub Does : (ℕ → Facts → Ruling) → ℕ → ℕ → Shown → Counts → Counts → Step Record → Raced → Raced → Type 0
 Does would state after shown c d s old new = DoesAs old.control would state after shown c d s old new
 
 -- what a step may read, whatever it answers
@@ -148,7 +148,7 @@ pub record OnlyTakes (old new : Raced) : Type 0 where
   pub fewer : keys_work new ≤ keys_work old
 
 -- what it does, and then what it read is counted
-pub record StepsAs (would : ℕ → Facts → Ruling) (state after : ℕ) (shown : Shown) (c d : Counts) (s : Scanned)
+pub record StepsAs (would : ℕ → Facts → Ruling) (state after : ℕ) (shown : Shown) (c d : Counts) (s : Step Record)
     (old new : Raced) : Type 0 where
   pub stepped : Raced
   pub does : Does would state after shown c d s old stepped

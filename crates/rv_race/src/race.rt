@@ -28,10 +28,9 @@ use rv_final::Final;
 use rv_jscan::{Lane, Piece, PieceId, ScanCounts, ScanPlan, Sieved, Within};
 use rv_judge::{Control, Counts, Event, Facts, Happening, Steps, Strategy, Trace, course, project};
 use rv_keylist::KeyList;
-use rv_reader::Reader;
+use rv_reader::{Reader, Step};
 use rv_restrict::Restriction;
-use rv_scan::Scanned;
-use rv_value::NoMemory;
+use rv_value::{NoMemory, Record};
 use std::alloc::Global;
 use std::marker::Model;
 use std::mem;
@@ -542,7 +541,7 @@ impl Race {
         &mut self,
         reader: &R,
         steps: &mut Steps<R::Ledger>,
-    ) -> Result<Scanned, NoMemory>
+    ) -> Result<Step<Record>, NoMemory>
         requires fits { RaceFits self.old (R.shown reader.now) }
         ensures same { self.new ≡ record self.old { at = self.new.at } }
         ensures marks { (need : List ℕ) → IfOk result (λ s. StepMarks need self.old.only (rows_of self.old (R.shown reader.now)) s (list_left self.old.list None self.old.at) (list_left self.old.list None self.new.at)) }
@@ -568,7 +567,7 @@ impl Race {
         &mut self,
         reader: &R,
         steps: &mut Steps<R::Ledger>,
-    ) -> Result<Scanned, NoMemory>
+    ) -> Result<Step<Record>, NoMemory>
         requires fits { RaceFits self.old (R.shown reader.now) }
         ensures same { self.new ≡ record self.old { last = self.new.last } }
         ensures last { LastFits self.old.table self.old.snap self.new.last (R.shown reader.now) }

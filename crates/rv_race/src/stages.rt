@@ -12,9 +12,8 @@ ghost use Rattle.rv_race.specs.Runs.{Tells};
 use crate::race::Race;
 use rv_jscan::{Taken, sieve};
 use rv_judge::{Control, Happening, Judge, Steps};
-use rv_reader::Reader;
-use rv_scan::Scanned;
-use rv_value::NoMemory;
+use rv_reader::{Reader, Step};
+use rv_value::{NoMemory, Record};
 
 /// The steps of a race.
 impl Race {
@@ -24,7 +23,7 @@ impl Race {
         reader: &R,
         judge: &mut Box<dyn Judge>,
         steps: &mut Steps<R::Ledger>,
-    ) -> Result<Scanned, NoMemory>
+    ) -> Result<Step<Record>, NoMemory>
         requires control { self.old.control ≡ Control.BackgroundAlone }
         requires fits { RaceFits self.old (R.shown reader.now) }
         ensures does { IfOk result (λ s. Does (would judge.old) (state judge.old) (state judge.new) (R.shown reader.now) steps.old steps.new s self.old self.new) }
@@ -42,7 +41,7 @@ impl Race {
         match self.take_piece(reader, steps)? {
             Taken::Piece(piece) => {
                 let _given = self.give_piece(sieve(piece), judge)?;
-                Ok(Scanned::Working)
+                Ok(Step::Working)
             }
             Taken::Nothing => unreachable!(),
         }
@@ -53,7 +52,7 @@ impl Race {
         &mut self,
         reader: &R,
         steps: &mut Steps<R::Ledger>,
-    ) -> Result<Scanned, NoMemory>
+    ) -> Result<Step<Record>, NoMemory>
         requires control { self.old.control ≡ Control.FinalList }
         requires fits { RaceFits self.old (R.shown reader.now) }
         ensures does { (rules : ℕ → Facts → Ruling) (stands : ℕ) → IfOk result (λ s. Does rules stands stands (R.shown reader.now) steps.old steps.new s self.old self.new) }
@@ -67,11 +66,11 @@ impl Race {
         ensures falls { IfOk result (λ s. Falls s steps.old steps.new (effort self.old (R.shown reader.now)) (effort self.new (R.shown reader.now))) }
     {
         match self.scan_list(reader, steps)? {
-            Scanned::Found(row) => Ok(Scanned::Found(row)),
-            Scanned::Working => Ok(Scanned::Working),
-            Scanned::End => {
+            Step::Row(row) => Ok(Step::Row(row)),
+            Step::Working => Ok(Step::Working),
+            Step::End => {
                 self.go(Happening::FinalEnded);
-                Ok(Scanned::End)
+                Ok(Step::End)
             }
         }
     }
@@ -81,7 +80,7 @@ impl Race {
         &mut self,
         reader: &R,
         steps: &mut Steps<R::Ledger>,
-    ) -> Result<Scanned, NoMemory>
+    ) -> Result<Step<Record>, NoMemory>
         requires control { self.old.control ≡ Control.FinalTable }
         requires fits { RaceFits self.old (R.shown reader.now) }
         ensures does { (rules : ℕ → Facts → Ruling) (stands : ℕ) → IfOk result (λ s. Does rules stands stands (R.shown reader.now) steps.old steps.new s self.old self.new) }
@@ -95,11 +94,11 @@ impl Race {
         ensures falls { IfOk result (λ s. Falls s steps.old steps.new (effort self.old (R.shown reader.now)) (effort self.new (R.shown reader.now))) }
     {
         match self.scan_last(reader, steps)? {
-            Scanned::Found(found) => Ok(Scanned::Found(found)),
-            Scanned::Working => Ok(Scanned::Working),
-            Scanned::End => {
+            Step::Row(found) => Ok(Step::Row(found)),
+            Step::Working => Ok(Step::Working),
+            Step::End => {
                 self.go(Happening::FinalEnded);
-                Ok(Scanned::End)
+                Ok(Step::End)
             }
         }
     }
@@ -110,13 +109,13 @@ impl Race {
         reader: &R,
         judge: &mut Box<dyn Judge>,
         steps: &mut Steps<R::Ledger>,
-    ) -> Result<Scanned, NoMemory>
+    ) -> Result<Step<Record>, NoMemory>
         requires fits { RaceFits self.old (R.shown reader.now) }
         ensures does { IfOk result (λ s. Does (would judge.old) (state judge.old) (state judge.new) (R.shown reader.now) steps.old steps.new s self.old self.new) }
         ensures steady { Steady self.old self.new (R.shown reader.now) }
         ensures step { IfOk result (DoesStep self.old self.new (R.shown reader.now)) }
         ensures ends { IfOk result (EndsIn self.new) }
-        ensures again { self.old.control ≡ Control.Done → result ≡ Ok Scanned.End }
+        ensures again { self.old.control ≡ Control.Done → result ≡ Ok Step.End }
         ensures err { OnErr result (rest self.new (R.shown reader.now) ≡ rest self.old (R.shown reader.now)) }
         ensures still { OnErr result (OnlyTakes self.old self.new) }
         ensures quiet { OnErr result (state judge.new ≡ state judge.old) }
@@ -129,28 +128,28 @@ impl Race {
             Control::BackgroundAlone => self.background_step(reader, judge, steps),
             Control::FinalList => self.list_step(reader, steps),
             Control::FinalTable => self.table_step(reader, steps),
-            Control::Done => Ok(Scanned::End),
+            Control::Done => Ok(Step::End),
             Control::Building | Control::ForegroundAlone => unreachable!(),
         }
     }
 
     /// Gives a row of the rest, works on, or ends.
     ///
-    /// `Found` takes one record out of the rest. `End` comes only where the rest is empty, and then again at each further
+    /// `Row` takes one record out of the rest. `End` comes only where the rest is empty, and then again at each further
     /// step. `Working` leaves the rest; so does `NoMemory`.
     pub fn step<R: Reader>(
         &mut self,
         reader: &R,
         judge: &mut Box<dyn Judge>,
         steps: &mut Steps<R::Ledger>,
-    ) -> Result<Scanned, NoMemory>
+    ) -> Result<Step<Record>, NoMemory>
         requires fits { RaceFits self.old (R.shown reader.now) }
         ensures counts { CountsRise self.old.trace self.new.trace steps.old steps.new }
         ensures does { IfOk result (λ s. StepsAs (would judge.old) (state judge.old) (state judge.new) (R.shown reader.now) steps.old steps.new s self.old self.new) }
         ensures fits { RaceFits self.new (R.shown reader.now) }
         ensures step { IfOk result (DoesStep self.old self.new (R.shown reader.now)) }
         ensures ends { IfOk result (EndsIn self.new) }
-        ensures again { self.old.control ≡ Control.Done → result ≡ Ok Scanned.End }
+        ensures again { self.old.control ≡ Control.Done → result ≡ Ok Step.End }
         ensures err { OnErr result (rest self.new (R.shown reader.now) ≡ rest self.old (R.shown reader.now)) }
         ensures still { OnErr result (OnlyTakes self.old self.new) }
         ensures same { SameRace self.old self.new }

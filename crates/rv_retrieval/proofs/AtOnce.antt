@@ -23,16 +23,15 @@ use Rattle.rv_jscan.specs.Planned.{indexes_of}
 use Rattle.rv_jscan.specs.Steps.{begun}
 use Rattle.rv_final.specs.Stage.{Unbegun}
 use Rattle.rv_judge.specs.Counting.{raised}
-use Rattle.rv_scan.specs.declared.skip.Scanned.{Scanned as Stepped}
-use Rattle.rv_scan.specs.declared.skip.Scanned.TheVariants.{Found, Working, End}
+use Rattle.rv_reader.specs.declared.step.Step.{Step}
+use Rattle.rv_reader.specs.declared.step.Step.TheVariants.{Row, Working, End}
 use Rattle.rv_choice.specs.declared.choosing.Background.{Background}
 use Rattle.rv_choice.specs.declared.choosing.Choice.{Choice}
 use Rattle.rv_choice.specs.declared.query.Query.{Query}
-use Rattle.rv_retrieval.specs.declared.steps.Fg.{Fg}
 use Rattle.rv_choice.specs.Choice.{AreScans, IsChosen, candidates_of}
 use Rattle.rv_retrieval.specs.Opened.{Completes, IsMade, OnlyLists, Opened, RunsOut, SameScans, Scanned, Settles, Starts, bounded_by, has_scans, is_one, settled_events, will_have}
 use Rattle.rv_choice.specs.Leading.{guarantee_of}
-use Rattle.rv_retrieval.specs.Opens.{GivesStep, fg_of, first_of}
+use Rattle.rv_retrieval.specs.Opens.{first_of}
 use Rattle.rv_final.specs.Rest.{Steps}
 use Rattle.rv_retrieval.specs.Rulings.{going_on, gone, listed, scan_over}
 use Rattle.rv_retrieval.specs.Shape.{DoesStep, RetrievalFits, Shape, is_background, rest}
@@ -206,12 +205,3 @@ counts_all background made mid new before after z runs same n =
 
     none_counted : NothingCounted mid.trace
     none_counted = elim (cases_Bool (is_one background)) [ inl one ↦ from_runs (runs one) | inr none ↦ subst (λ (x : Shape). NothingCounted x.trace) (sym (same none)) z ]
-
--- what a step answers, said of the value behind its counts
-pub gives_step : (v mid new : Shape) (shown : Shown) (s : Stepped) (fg : Fg) → DoesStep v mid shown s → rest new shown ≡ rest mid shown → fg ≡ fg_of s → GivesStep v new shown fg
-gives_step v mid new shown s fg step e f = subst (GivesStep v new shown) (sym f) (by s (subst (λ (x : List Record). Steps v.query.need v.query.order s (rest v shown) x) (sym e) step))
-  where
-    by : (s : Stepped) → DoesStep v new shown s → GivesStep v new shown (fg_of s)
-    by (Found r) d = d
-    by Working d = d
-    by End d = d

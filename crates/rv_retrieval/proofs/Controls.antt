@@ -7,7 +7,8 @@ use Rattle.rv_judge.specs.declared.events.Control.TheVariants.{FinalList, FinalT
 use Rattle.rv_judge.specs.declared.events.Happening.TheVariants.{FinalEnded}
 use Rattle.rv_judge.specs.Course.{next_control}
 use Rattle.rv_reader.specs.Shown.{Shown}
-use Rattle.rv_scan.specs.declared.skip.Scanned.{Scanned}
+use Rattle.rv_reader.specs.declared.step.Step.{Step}
+use Rattle.rv_value.specs.declared.record.Record.{Record}
 use Rattle.rv_final.specs.Rest.{StepMarks}
 use Rattle.rv_retrieval.specs.Shape.{Shape, RetrievalFits, DoesStep, Source, Ahead, Keys, Pages, Nowhere, rest, source, source_of, left_at, rows_of, is_index_only, is_sorted, is_led}
 use Rattle.rv_final.specs.Stage.{PassesKeys, Staged}
@@ -76,7 +77,7 @@ passed_rest v new shown c e p =
     let next = record v { at = new.at } in
     ap (λ (x : Shape). rest x shown) e ∙ rest_at next shown Keys (source_at v FinalList c) ∙ same_rest v.query.only (rows_of v shown) (left_at Keys v shown) (left_at Keys next shown) (λ n q. p.same n) ∙ sym (rest_at v shown Keys (source_at v FinalList c))
 
-pub list_scanned : (v new : Shape) (shown : Shown) (s : Scanned) → v.control ≡ FinalList → new ≡ record v { at = new.at } → RetrievalFits v shown → StepMarks v.query.need v.query.only (rows_of v shown) s (left_at Keys v shown) (left_at Keys new shown) → DoesStep v new shown s
+pub list_scanned : (v new : Shape) (shown : Shown) (s : Step Record) → v.control ≡ FinalList → new ≡ record v { at = new.at } → RetrievalFits v shown → StepMarks v.query.need v.query.only (rows_of v shown) s (left_at Keys v shown) (left_at Keys new shown) → DoesStep v new shown s
 list_scanned v new shown s c e f marks =
     let next = record v { at = new.at } in
     let order : v.query.order ≡ [] = no_columns v shown Keys f (source_at v FinalList c) (λ x. cc) (λ x. cc) in
@@ -86,7 +87,7 @@ list_scanned v new shown s c e f marks =
 
 -- The final scan of the table.
 
-pub table_scanned : (v new : Shape) (shown : Shown) (s : Scanned) → v.control ≡ FinalTable → new ≡ record v { last = new.last } → RetrievalFits v shown → StepMarks v.query.need v.query.only (rows_of v shown) s (left_at Pages v shown) (left_at Pages new shown) → DoesStep v new shown s
+pub table_scanned : (v new : Shape) (shown : Shown) (s : Step Record) → v.control ≡ FinalTable → new ≡ record v { last = new.last } → RetrievalFits v shown → StepMarks v.query.need v.query.only (rows_of v shown) s (left_at Pages v shown) (left_at Pages new shown) → DoesStep v new shown s
 table_scanned v new shown s c e f marks =
     let next = record v { last = new.last } in
     let order : v.query.order ≡ [] = no_columns v shown Pages f (source_at v FinalTable c) (λ x. cc) (λ x. cc) in

@@ -20,8 +20,8 @@ use Rattle.rv_value.specs.declared.range.Range.{Range}
 use Rattle.rv_restrict.specs.Parts.{stands_among}
 use Rattle.rv_scan.specs.Told.{NamesThese}
 use Rattle.rv_reader.specs.Tables.{row_at}
-use Rattle.rv_scan.specs.declared.skip.Scanned.{Scanned}
-use Rattle.rv_scan.specs.declared.skip.Scanned.TheVariants.{Found, Working, End}
+use Rattle.rv_reader.specs.declared.step.Step.{Step}
+use Rattle.rv_reader.specs.declared.step.Step.TheVariants.{Row, Working, End}
 use Rattle.rv_scan.specs.Alongs.{Follows, looked}
 use Rattle.rv_choice.specs.declared.query.Query.{Query}
 use Rattle.rv_final.specs.Rest.{Agree, IsLeast, StepMarks, Steps, rest_by}
@@ -74,7 +74,7 @@ borrowed_fits v b d c t shown ec es u room f = record {
   sorted = λ h. absurd (let bad : true ≡ false = sym h ∙ ap is_sorted es in cc);
 }
 
-borrowed_step : (v : Shape) (b : ℕ) (d : List ℕ) (c : Control) (t : Trace) (shown : Shown) (k : ℕ) (found : Option Record) (s : Scanned) → v.control ≡ Building → v.strategy ≡ FastFirst → source_of c v.strategy ≡ Undelivered → AddsRow v.delivered d k → has_key k v.delivered ≡ false → RetrievalFits v shown → row_at (rows_of v shown) k ≡ found → s ≡ looked v.query.only found → DoesStep v (record v { borrowed = b; delivered = d; control = c; trace = t }) shown s
+borrowed_step : (v : Shape) (b : ℕ) (d : List ℕ) (c : Control) (t : Trace) (shown : Shown) (k : ℕ) (found : Option Record) (s : Step Record) → v.control ≡ Building → v.strategy ≡ FastFirst → source_of c v.strategy ≡ Undelivered → AddsRow v.delivered d k → has_key k v.delivered ≡ false → RetrievalFits v shown → row_at (rows_of v shown) k ≡ found → s ≡ looked v.query.only found → DoesStep v (record v { borrowed = b; delivered = d; control = c; trace = t }) shown s
 borrowed_step v b d c t shown k found s ec es u a fresh f r is =
     let next = record v { borrowed = b; delivered = d; control = c; trace = t } in
     let here : source v ≡ Undelivered = source_at v Building FastFirst ec es in
@@ -107,7 +107,7 @@ borrow_fits v mid new b k shown ec es e d f =
     let to : next_control v.strategy v.control Full ≡ BackgroundAlone = ap (λ (x : Control). next_control v.strategy x Full) ec ∙ ap (λ (x : Strategy). next_control x Building Full) es in
     subst (λ (x : Shape). RetrievalFits x shown) (sym (lend v mid new b k e d)) (borrowed_fits v b new.delivered new.control new.trace shown ec es (full_source v new.control ec es (first_of goes)) (still_room v new BackgroundAlone to refl goes) f)
 
-pub borrow_step : (v mid new : Shape) (b k : ℕ) (shown : Shown) (found : Option Record) (s : Scanned) → v.control ≡ Building → v.strategy ≡ FastFirst → mid ≡ record v { borrowed = b } → Delivers mid new k → has_key k v.delivered ≡ false → RetrievalFits v shown → row_at (rows_of v shown) k ≡ found → s ≡ looked v.query.only found → DoesStep v new shown s
+pub borrow_step : (v mid new : Shape) (b k : ℕ) (shown : Shown) (found : Option Record) (s : Step Record) → v.control ≡ Building → v.strategy ≡ FastFirst → mid ≡ record v { borrowed = b } → Delivers mid new k → has_key k v.delivered ≡ false → RetrievalFits v shown → row_at (rows_of v shown) k ≡ found → s ≡ looked v.query.only found → DoesStep v new shown s
 borrow_step v mid new b k shown found s ec es e d fresh f r is =
     let goes = goes_from v mid new b k e d in
     let adds : AddsRow v.delivered new.delivered k = subst (λ (m : Shape). AddsRow m.delivered new.delivered k) e d.adds in
@@ -158,25 +158,25 @@ front_fits v new shown same follows remembered f = record {
   sorted = f.sorted;
 }
 
-marks_least : (need order : List ℕ) (only : List (List Atom)) (rows : List Record) (s : Scanned) (old new : ℕ → Bool) → Ascend rows → ((r : Record) → s ≡ Found r → IsLeast order r (rest_by old only rows)) → StepMarks need only rows s old new → Steps need order s (rest_by old only rows) (rest_by new only rows)
-marks_least need order only rows (Found r) old new asc least m = (marks_out need only rows r old new asc m, least r refl)
+marks_least : (need order : List ℕ) (only : List (List Atom)) (rows : List Record) (s : Step Record) (old new : ℕ → Bool) → Ascend rows → ((r : Record) → s ≡ Row r → IsLeast order r (rest_by old only rows)) → StepMarks need only rows s old new → Steps need order s (rest_by old only rows) (rest_by new only rows)
+marks_least need order only rows (Row r) old new asc least m = (marks_out need only rows r old new asc m, least r refl)
 marks_least need order only rows Working old new asc least m = same_rest only rows old new m
 marks_least need order only rows End old new asc least m = (no_rest only rows old m.0, no_rest only rows new m.1)
 
-least_is : (v : Shape) (shown : Shown) (s : Scanned) (r : Record) → LeastOf v shown s → s ≡ Found r → IsLeast v.query.order r (rest_by (front_left v.front (front_entries v shown)) v.query.only (rows_of v shown))
+least_is : (v : Shape) (shown : Shown) (s : Step Record) (r : Record) → LeastOf v shown s → s ≡ Row r → IsLeast v.query.order r (rest_by (front_left v.front (front_entries v shown)) v.query.only (rows_of v shown))
 least_is v shown s r l e = subst (LeastOf v shown) e l
 
 -- a step of the scan, where it leads the rest
-pub front_does : (v : Shape) (new : Front) (shown : Shown) (s : Scanned) → source v ≡ Ahead → SameFront v.front new → RetrievalFits v shown → (is_sorted v.strategy ≡ true → LeastOf v shown s) → StepMarks v.query.need v.query.only (rows_of v shown) s (front_left v.front (front_entries v shown)) (front_left new (front_entries v shown)) → DoesStep v (record v { front = new }) shown s
+pub front_does : (v : Shape) (new : Front) (shown : Shown) (s : Step Record) → source v ≡ Ahead → SameFront v.front new → RetrievalFits v shown → (is_sorted v.strategy ≡ true → LeastOf v shown s) → StepMarks v.query.need v.query.only (rows_of v shown) s (front_left v.front (front_entries v shown)) (front_left new (front_entries v shown)) → DoesStep v (record v { front = new }) shown s
 front_does v new shown s a same f least marks =
     let next = record v { front = new } in
     let old = front_left v.front (front_entries v shown) in
-    let least_row : (r : Record) → s ≡ Found r → IsLeast v.query.order r (rest_by old v.query.only (rows_of v shown)) = λ r e. by (is_sorted v.strategy) refl r e in
+    let least_row : (r : Record) → s ≡ Row r → IsLeast v.query.order r (rest_by old v.query.only (rows_of v shown)) = λ r e. by (is_sorted v.strategy) refl r e in
     let step = marks_least v.query.need v.query.order v.query.only (rows_of v shown) s old (front_left new (front_entries v shown)) f.ascend least_row marks in
     let same_tests : rest_by (left_at Ahead next shown) v.query.only (rows_of v shown) ≡ rest_by (front_left new (front_entries v shown)) v.query.only (rows_of v shown) = same_rest v.query.only (rows_of v shown) (front_left new (front_entries v shown)) (left_at Ahead next shown) (λ n q. left_again v new shown n same) in
     rw (rest_at v shown Ahead a, rest_at next shown Ahead a, same_tests) step
   where
-    by : (b : Bool) → is_sorted v.strategy ≡ b → (r : Record) → s ≡ Found r → IsLeast v.query.order r (rest_by (front_left v.front (front_entries v shown)) v.query.only (rows_of v shown))
+    by : (b : Bool) → is_sorted v.strategy ≡ b → (r : Record) → s ≡ Row r → IsLeast v.query.order r (rest_by (front_left v.front (front_entries v shown)) v.query.only (rows_of v shown))
     by true h r e = least_is v shown s r (least h) e
     by false h r e = unordered v.query.order r (rest_by (front_left v.front (front_entries v shown)) v.query.only (rows_of v shown)) (f.ordered h)
 
@@ -200,10 +200,10 @@ front_done s Done a l = absurd (cc)
 
 -- Index-only: the buffer goes on telling what the index has behind it.
 
-pub remember_agree : (v : Shape) (new : Front) (d : List ℕ) (shown : Shown) (r : Record) → AddsRow v.delivered d r.row.0 → Agree v.query.only (rows_of v shown) (λ n. not (has_key n v.delivered)) (front_left v.front (front_entries v shown)) → StepMarks v.query.need v.query.only (rows_of v shown) (Found r) (front_left v.front (front_entries v shown)) (front_left new (front_entries v shown)) → Agree v.query.only (rows_of v shown) (λ n. not (has_key n d)) (front_left new (front_entries v shown))
+pub remember_agree : (v : Shape) (new : Front) (d : List ℕ) (shown : Shown) (r : Record) → AddsRow v.delivered d r.row.0 → Agree v.query.only (rows_of v shown) (λ n. not (has_key n v.delivered)) (front_left v.front (front_entries v shown)) → StepMarks v.query.need v.query.only (rows_of v shown) (Row r) (front_left v.front (front_entries v shown)) (front_left new (front_entries v shown)) → Agree v.query.only (rows_of v shown) (λ n. not (has_key n d)) (front_left new (front_entries v shown))
 remember_agree v new d shown r a agree m n q = m.others n q ∙ ap (λ (b : Bool). b && not (nat_eq n r.row.0)) (agree n q) ∙ sym (remembered_test v.delivered d r.row.0 n a)
 
-pub fresh_row : (v : Shape) (new : Front) (shown : Shown) (r : Record) → RetrievalFits v shown → (is_building v.control && is_index_only v.strategy) ≡ true → StepMarks v.query.need v.query.only (rows_of v shown) (Found r) (front_left v.front (front_entries v shown)) (front_left new (front_entries v shown)) → has_key r.row.0 v.delivered ≡ false
+pub fresh_row : (v : Shape) (new : Front) (shown : Shown) (r : Record) → RetrievalFits v shown → (is_building v.control && is_index_only v.strategy) ≡ true → StepMarks v.query.need v.query.only (rows_of v shown) (Row r) (front_left v.front (front_entries v shown)) (front_left new (front_entries v shown)) → has_key r.row.0 v.delivered ≡ false
 fresh_row v new shown r f b m =
     let q = told_by v.query.only (rows_of v shown) r.row.0 m.taken f.ascend m.there ∙ m.qualifies in
     not-true (has_key r.row.0 v.delivered) (sym (f.remembered b r.row.0 q) ∙ m.left)
@@ -213,7 +213,7 @@ fresh_row v new shown r f b m =
 pub moved_fits : (v mid : Shape) (shown : Shown) → mid ≡ record v { front = mid.front } → SameFront v.front mid.front → Follows (walk_of mid.front) (front_entries v shown) → ((is_building v.control && is_index_only v.strategy) ≡ true → Agree v.query.only (rows_of v shown) (λ n. not (has_key n v.delivered)) (front_left mid.front (front_entries v shown))) → RetrievalFits v shown → RetrievalFits mid shown
 moved_fits v mid shown e same follows remembered f = subst (λ (x : Shape). RetrievalFits x shown) (sym e) (front_fits v mid.front shown same follows remembered f)
 
-pub moved_does : (v mid : Shape) (shown : Shown) (s : Scanned) → mid ≡ record v { front = mid.front } → source v ≡ Ahead → SameFront v.front mid.front → RetrievalFits v shown → (is_sorted v.strategy ≡ true → LeastOf v shown s) → StepMarks v.query.need v.query.only (rows_of v shown) s (front_left v.front (front_entries v shown)) (front_left mid.front (front_entries v shown)) → DoesStep v mid shown s
+pub moved_does : (v mid : Shape) (shown : Shown) (s : Step Record) → mid ≡ record v { front = mid.front } → source v ≡ Ahead → SameFront v.front mid.front → RetrievalFits v shown → (is_sorted v.strategy ≡ true → LeastOf v shown s) → StepMarks v.query.need v.query.only (rows_of v shown) s (front_left v.front (front_entries v shown)) (front_left mid.front (front_entries v shown)) → DoesStep v mid shown s
 moved_does v mid shown s e a same f least marks = subst (λ (x : Shape). DoesStep v x shown s) (sym e) (front_does v mid.front shown s a same f least marks)
 
 pub forgotten : (v : Shape) {X : Type 0} → (is_building v.control && is_index_only v.strategy) ≡ false → (is_building v.control && is_index_only v.strategy) ≡ true → X
@@ -279,23 +279,23 @@ both_goes v mid new k e d = subst (λ (m : Shape). ((new.control ≡ m.control) 
 both_adds : (v mid new : Shape) (k : ℕ) → mid ≡ record v { front = mid.front } → Delivers mid new k → AddsRow v.delivered new.delivered k
 both_adds v mid new k e d = subst (λ (m : Shape). AddsRow m.delivered new.delivered k) e d.adds
 
-pub both_found_fits : (v mid new : Shape) (r : Record) (shown : Shown) → (is_building v.control && is_index_only v.strategy) ≡ true → mid ≡ record v { front = mid.front } → SameFront v.front mid.front → Follows (walk_of mid.front) (front_entries v shown) → Delivers mid new r.row.0 → StepMarks v.query.need v.query.only (rows_of v shown) (Found r) (front_left v.front (front_entries v shown)) (front_left mid.front (front_entries v shown)) → RetrievalFits v shown → RetrievalFits new shown
+pub both_found_fits : (v mid new : Shape) (r : Record) (shown : Shown) → (is_building v.control && is_index_only v.strategy) ≡ true → mid ≡ record v { front = mid.front } → SameFront v.front mid.front → Follows (walk_of mid.front) (front_entries v shown) → Delivers mid new r.row.0 → StepMarks v.query.need v.query.only (rows_of v shown) (Row r) (front_left v.front (front_entries v shown)) (front_left mid.front (front_entries v shown)) → RetrievalFits v shown → RetrievalFits new shown
 both_found_fits v mid new r shown b e same follows d marks f =
     let goes = both_goes v mid new r.row.0 e d in
     subst (λ (x : Shape). RetrievalFits x shown) (sym (moves_on v mid new r.row.0 e d)) (both_fits v mid.front new.delivered new.control new.trace shown b (both_source v new.control b (first_of goes)) (still_room v new ForegroundAlone (both_full v b) refl goes) same follows (remember_agree v mid.front new.delivered shown r (both_adds v mid new r.row.0 e d) (f.remembered b) marks) f)
 
-pub both_found_does : (v mid new : Shape) (r : Record) (shown : Shown) → (is_building v.control && is_index_only v.strategy) ≡ true → mid ≡ record v { front = mid.front } → SameFront v.front mid.front → Delivers mid new r.row.0 → StepMarks v.query.need v.query.only (rows_of v shown) (Found r) (front_left v.front (front_entries v shown)) (front_left mid.front (front_entries v shown)) → RetrievalFits v shown → DoesStep v new shown (Found r)
+pub both_found_does : (v mid new : Shape) (r : Record) (shown : Shown) → (is_building v.control && is_index_only v.strategy) ≡ true → mid ≡ record v { front = mid.front } → SameFront v.front mid.front → Delivers mid new r.row.0 → StepMarks v.query.need v.query.only (rows_of v shown) (Row r) (front_left v.front (front_entries v shown)) (front_left mid.front (front_entries v shown)) → RetrievalFits v shown → DoesStep v new shown (Row r)
 both_found_does v mid new r shown b e same d marks f =
     let next = record v { front = mid.front; delivered = new.delivered; control = new.control; trace = new.trace } in
     let a : source_of new.control v.strategy ≡ Ahead = both_source v new.control b (first_of (both_goes v mid new r.row.0 e d)) in
     let order : v.query.order ≡ [] = f.ordered (no_sort v b) in
-    let step = marks_steps v.query.need v.query.order v.query.only (rows_of v shown) (Found r) (front_left v.front (front_entries v shown)) (front_left mid.front (front_entries v shown)) f.ascend order marks in
+    let step = marks_steps v.query.need v.query.order v.query.only (rows_of v shown) (Row r) (front_left v.front (front_entries v shown)) (front_left mid.front (front_entries v shown)) f.ascend order marks in
     let same_tests : rest_by (left_at Ahead next shown) v.query.only (rows_of v shown) ≡ rest_by (front_left mid.front (front_entries v shown)) v.query.only (rows_of v shown) = same_rest v.query.only (rows_of v shown) (front_left mid.front (front_entries v shown)) (left_at Ahead next shown) (λ n q. left_again v mid.front shown n same) in
-    subst (λ (x : Shape). DoesStep v x shown (Found r)) (sym (moves_on v mid new r.row.0 e d)) (rw (rest_at v shown Ahead (both_ahead v.control v.strategy b), rest_at next shown Ahead a, same_tests) step)
+    subst (λ (x : Shape). DoesStep v x shown (Row r)) (sym (moves_on v mid new r.row.0 e d)) (rw (rest_at v shown Ahead (both_ahead v.control v.strategy b), rest_at next shown Ahead a, same_tests) step)
 
 -- Steps that begin at a value that has the same rest.
 
-pub does_from : {E : Type 0} (r : Result Scanned E) (v mid new : Shape) (shown : Shown) → mid.query ≡ v.query → rest mid shown ≡ rest v shown → IfOk r (DoesStep mid new shown) → IfOk r (DoesStep v new shown)
+pub does_from : {E : Type 0} (r : Result (Step Record) E) (v mid new : Shape) (shown : Shown) → mid.query ≡ v.query → rest mid shown ≡ rest v shown → IfOk r (DoesStep mid new shown) → IfOk r (DoesStep v new shown)
 does_from (Ok s) v mid new shown q e step = subst (λ (x : List Record). Steps v.query.need v.query.order s x (rest new shown)) e (subst (λ (x : Query). Steps x.need x.order s (rest mid shown) (rest new shown)) q step)
 does_from (Err x) v mid new shown q e step = tt
 

@@ -7,7 +7,8 @@ use Rattle.rv_judge.specs.declared.counting.Counts.{Counts}
 use Rattle.rv_keylist.specs.Marks.{may_key}
 use Rattle.rv_keylist.specs.Listed.{Listed}
 use Rattle.rv_reader.specs.Shown.{Shown}
-use Rattle.rv_scan.specs.declared.skip.Scanned.{Scanned}
+use Rattle.rv_reader.specs.declared.step.Step.{Step}
+use Rattle.rv_value.specs.declared.record.Record.{Record}
 use Rattle.rv_scan.specs.Alongs.{is_given, left}
 use Rattle.rv_scan.specs.Due.{Skipped, is_unlisted, skips, was_delivered}
 use Rattle.rv_jscan.specs.Joint.{keys_of}
@@ -38,6 +39,6 @@ one_fetches v new shown skip before after f led d k same step =
     let next : front_fetches new (own_entries v shown) skip ≡ scan_fetches (record v { front = new }) shown = ap (λ (es : List IndexEntry). front_fetches new es skip) (at ∙ sym again) ∙ hidden new (front_entries (record v { front = new }) shown) skip v.joint.list d k in
     omega arith
 
-pub scan_fewer : {E : Type 0} (r : Result Scanned E) (v : Shape) (new : Front) (shown : Shown) (skip : Skipped) (before after : Counts) → RetrievalFits v shown → is_led v.strategy ≡ true → skip.delivered ≡ None → keys_of skip.list ≡ v.joint.list → SameFront v.front new → IfOk r (λ s. after.records + front_fetches new (own_entries v shown) skip ≤ before.records + front_fetches v.front (own_entries v shown) skip) → IfOk r (λ s. after.records + scan_fetches (record v { front = new }) shown ≤ before.records + scan_fetches v shown)
+pub scan_fewer : {E : Type 0} (r : Result (Step Record) E) (v : Shape) (new : Front) (shown : Shown) (skip : Skipped) (before after : Counts) → RetrievalFits v shown → is_led v.strategy ≡ true → skip.delivered ≡ None → keys_of skip.list ≡ v.joint.list → SameFront v.front new → IfOk r (λ s. after.records + front_fetches new (own_entries v shown) skip ≤ before.records + front_fetches v.front (own_entries v shown) skip) → IfOk r (λ s. after.records + scan_fetches (record v { front = new }) shown ≤ before.records + scan_fetches v shown)
 scan_fewer (Ok s) v new shown skip before after f led d k same step = one_fetches v new shown skip before after f led d k same step
 scan_fewer (Err x) v new shown skip before after f led d k same step = tt

@@ -10,7 +10,7 @@ use Rattle.rv_restrict.specs.declared.atom.Atom.{Atom}
 use Rattle.rv_keylist.specs.Listed.{Listed}
 use Rattle.rv_reader.specs.Shown.{Shown}
 use Rattle.rv_reader.specs.Tables.{row_at}
-use Rattle.rv_scan.specs.declared.skip.Scanned.{Scanned}
+use Rattle.rv_reader.specs.declared.step.Step.{Step}
 use Rattle.rv_scan.specs.Alongs.{FetchesDue, Follows, looked, fetch_rest, fetched, leaf_work, left}
 use Rattle.rv_scan.specs.Due.{Skipped, StepsTo, due, is_unlisted, skips, was_delivered}
 use Rattle.rv_scan.specs.Told.{NamesThese, told, told_rest}
@@ -77,7 +77,7 @@ open_is need f only columns entries rows skip w a clear n q = sym (items_has f c
     keeps : (x s : Bool) → s ≡ false → (x && not s) ≡ x
     keeps x s h = grind arith
 
-pub front_steps : (v : Shape) (new : Front) (shown : Shown) (skip : Skipped) (s : Scanned) (w u : ℕ) → RetrievalFits v shown → is_led v.strategy ≡ true → SkipsBy v skip → SameFront v.front new → Follows (walk_of new) (front_entries v shown)
+pub front_steps : (v : Shape) (new : Front) (shown : Shown) (skip : Skipped) (s : Step Record) (w u : ℕ) → RetrievalFits v shown → is_led v.strategy ≡ true → SkipsBy v skip → SameFront v.front new → Follows (walk_of new) (front_entries v shown)
     → StepsTo s (front_rest v.front (front_entries v shown) (rows_of v shown) v.query.only skip) w (front_rest new (front_entries v shown) (rows_of v shown) v.query.only skip) u
     → StepMarks v.query.need v.query.only (rows_of v shown) s (front_left v.front (front_entries v shown)) (front_left new (front_entries v shown))
 front_steps v new shown skip s w u f led by same follows step =
@@ -103,7 +103,7 @@ front_steps v new shown skip s w u f led by same follows step =
 abbrev pub own_entries : Shape → Shown → List IndexEntry
 own_entries v shown = shown.entries (walk_of v.front).index (walk_of v.front).snap
 
-abbrev pub FrontStep : Shape → Front → Shown → Skipped → Scanned → Type 0
+abbrev pub FrontStep : Shape → Front → Shown → Skipped → Step Record → Type 0
 FrontStep v new shown skip s = StepsTo s (front_rest v.front (own_entries v shown) (shown.rows v.front.fetching.table (walk_of v.front).snap) v.query.only skip) (leaf_work (walk_of v.front) (own_entries v shown) (shown.cuts (walk_of v.front).index (walk_of v.front).snap)) (front_rest new (own_entries v shown) (shown.rows v.front.fetching.table (walk_of v.front).snap) v.query.only skip) (leaf_work (walk_of new) (own_entries v shown) (shown.cuts (walk_of v.front).index (walk_of v.front).snap))
 
 pub skips_by : (v : Shape) (o l : Option Listed) → o ≡ (if is_sorted v.strategy then l else None) → keys_of l ≡ v.joint.list → SkipsBy v (record { delivered = None; list = o })
@@ -121,7 +121,7 @@ own_follows v new shown f led follows =
     let at : own_entries v shown ≡ front_entries v shown = ap (shown.entries (walk_of v.front).index) ff.can.at_snap in
     subst (Follows (walk_of new)) at (follows (subst (Follows (walk_of v.front)) (sym at) ff.follows))
 
-one_marks : (v : Shape) (new : Front) (shown : Shown) (skip : Skipped) (s : Scanned) → RetrievalFits v shown → is_led v.strategy ≡ true → SkipsBy v skip → SameFront v.front new → Follows (walk_of new) (front_entries v shown) → FrontStep v new shown skip s → StepMarks v.query.need v.query.only (rows_of v shown) s (front_left v.front (front_entries v shown)) (front_left new (front_entries v shown))
+one_marks : (v : Shape) (new : Front) (shown : Shown) (skip : Skipped) (s : Step Record) → RetrievalFits v shown → is_led v.strategy ≡ true → SkipsBy v skip → SameFront v.front new → Follows (walk_of new) (front_entries v shown) → FrontStep v new shown skip s → StepMarks v.query.need v.query.only (rows_of v shown) s (front_left v.front (front_entries v shown)) (front_left new (front_entries v shown))
 one_marks v new shown skip s f led by same follows step =
     let ff = f.front led in
     let at : own_entries v shown ≡ front_entries v shown = ap (shown.entries (walk_of v.front).index) ff.can.at_snap in
@@ -132,13 +132,13 @@ one_marks v new shown skip s f led by same follows step =
     let by_entries : StepsTo s (front_rest v.front (front_entries v shown) (rows_of v shown) v.query.only skip) w (front_rest new (front_entries v shown) (rows_of v shown) v.query.only skip) u = subst (λ (es : List IndexEntry). StepsTo s (front_rest v.front es (rows_of v shown) v.query.only skip) w (front_rest new es (rows_of v shown) v.query.only skip) u) at by_rows in
     front_steps v new shown skip s w u f led by same follows by_entries
 
-pub front_marks : {E : Type 0} (r : Result Scanned E) (v : Shape) (new : Front) (shown : Shown) (skip : Skipped) → RetrievalFits v shown → is_led v.strategy ≡ true → SkipsBy v skip → SameFront v.front new → Follows (walk_of new) (front_entries v shown) → IfOk r (FrontStep v new shown skip) → IfOk r (λ s. StepMarks v.query.need v.query.only (rows_of v shown) s (front_left v.front (front_entries v shown)) (front_left new (front_entries v shown)))
+pub front_marks : {E : Type 0} (r : Result (Step Record) E) (v : Shape) (new : Front) (shown : Shown) (skip : Skipped) → RetrievalFits v shown → is_led v.strategy ≡ true → SkipsBy v skip → SameFront v.front new → Follows (walk_of new) (front_entries v shown) → IfOk r (FrontStep v new shown skip) → IfOk r (λ s. StepMarks v.query.need v.query.only (rows_of v shown) s (front_left v.front (front_entries v shown)) (front_left new (front_entries v shown)))
 front_marks (Ok s) v new shown skip f led by same follows step = one_marks v new shown skip s f led by same follows step
 front_marks (Err e) v new shown skip f led by same follows step = tt
 
 -- Which record a step reads.
 
-pub walk_reads : {E : Type 0} (r : Result Scanned E) (v : Shape) (shown : Shown) (o l : Option Listed) (c d : Counts) → RetrievalFits v shown → is_led v.strategy ≡ true → o ≡ (if is_sorted v.strategy then l else None) → keys_of l ≡ v.joint.list → IfOk r (λ s. FetchesDue (record { delivered = None; list = o }) v.query.only (shown.rows v.front.fetching.table (walk_of v.front).snap) s c d) → IfOk r (WalkReads v shown c d)
+pub walk_reads : {E : Type 0} (r : Result (Step Record) E) (v : Shape) (shown : Shown) (o l : Option Listed) (c d : Counts) → RetrievalFits v shown → is_led v.strategy ≡ true → o ≡ (if is_sorted v.strategy then l else None) → keys_of l ≡ v.joint.list → IfOk r (λ s. FetchesDue (record { delivered = None; list = o }) v.query.only (shown.rows v.front.fetching.table (walk_of v.front).snap) s c d) → IfOk r (WalkReads v shown c d)
 walk_reads (Err e) v shown o l c d f led hides keys reads = tt
 walk_reads (Ok s) v shown o l c d f led hides keys (inr same) = inr same
 walk_reads (Ok s) v shown o l c d f led hides keys (inl one) =

@@ -26,8 +26,8 @@ use Rattle.rv_reader.specs.Shown.{Shown}
 use Rattle.rv_reader.specs.Tables.{row_at}
 use Rattle.rv_reader.proofs.Orders.{key_not, one_way}
 use Rattle.rv_reader.proofs.Sorting.{entries_ascend}
-use Rattle.rv_scan.specs.declared.skip.Scanned.{Scanned}
-use Rattle.rv_scan.specs.declared.skip.Scanned.TheVariants.{Found, Working, End}
+use Rattle.rv_reader.specs.declared.step.Step.{Step}
+use Rattle.rv_reader.specs.declared.step.Step.TheVariants.{Row, Working, End}
 use Rattle.rv_scan.specs.Alongs.{Along, Follows, fetched, left}
 use Rattle.rv_scan.specs.Due.{Skipped, due, is_due, skips}
 use Rattle.rv_scan.specs.Told.{NamesThese, told}
@@ -182,7 +182,7 @@ all_rest p test rows (x ∷ some) a h =
 left_rising : (along : Along) (entries : List IndexEntry) → Follows along entries → Rising comes_before entries → Rising comes_before (left along entries)
 left_rising along entries f up = subst (Rising comes_before) (sym f.1) (rising_drop comes_before f.0 (run entries along.range) (rising_filter comes_before (is_in along.range) entries up))
 
-found_least : (v : Shape) (shown : Shown) (skip : Skipped) (r : Record) (more : List Record) → RetrievalFits v shown → is_sorted v.strategy ≡ true → SkipsBy v skip → front_rest v.front (front_entries v shown) (rows_of v shown) v.query.only skip ≡ r ∷ more → LeastOf v shown (Found r)
+found_least : (v : Shape) (shown : Shown) (skip : Skipped) (r : Record) (more : List Record) → RetrievalFits v shown → is_sorted v.strategy ≡ true → SkipsBy v skip → front_rest v.front (front_entries v shown) (rows_of v shown) v.query.only skip ≡ r ∷ more → LeastOf v shown (Row r)
 found_least v shown skip r more f sorted by e =
     let led = sorted_is_led v.strategy sorted in
     let ff = f.front led in
@@ -204,8 +204,8 @@ found_least v shown skip r more f sorted by e =
     let q : qualifies_at only rows x.row.0 ≡ true = told_by only rows x.row.0 x f.ascend there ∙ parts.0 in
     not_from_false _ (least_of need order columns only rows skip es xs more r x x.row.0 leads (left_rising (walk_of v.front) entries ff.follows up) (left_stands (walk_of v.front) columns rows entries ff.follows stands) items first there parts.0 (unskipped v shown skip x.row.0 f by q) parts.1))
 
-one_least : (v : Shape) (new : Front) (shown : Shown) (skip : Skipped) (s : Scanned) → RetrievalFits v shown → is_sorted v.strategy ≡ true → SkipsBy v skip → FrontStep v new shown skip s → LeastOf v shown s
-one_least v new shown skip (Found r) f sorted by step =
+one_least : (v : Shape) (new : Front) (shown : Shown) (skip : Skipped) (s : Step Record) → RetrievalFits v shown → is_sorted v.strategy ≡ true → SkipsBy v skip → FrontStep v new shown skip s → LeastOf v shown s
+one_least v new shown skip (Row r) f sorted by step =
     let ff = f.front (sorted_is_led v.strategy sorted) in
     let at : own_entries v shown ≡ front_entries v shown = ap (shown.entries (walk_of v.front).index) ff.can.at_snap in
     let rows : shown.rows v.front.fetching.table (walk_of v.front).snap ≡ rows_of v shown = ap (λ (t : ℕ). shown.rows t (walk_of v.front).snap) ff.can.of_table ∙ ap (shown.rows v.query.table) ff.can.at_snap in
@@ -213,6 +213,6 @@ one_least v new shown skip (Found r) f sorted by step =
 one_least v new shown skip Working f sorted by step = tt
 one_least v new shown skip End f sorted by step = tt
 
-pub front_least : {E : Type 0} (r : Result Scanned E) (v : Shape) (new : Front) (shown : Shown) (skip : Skipped) → RetrievalFits v shown → is_sorted v.strategy ≡ true → SkipsBy v skip → IfOk r (FrontStep v new shown skip) → IfOk r (LeastOf v shown)
+pub front_least : {E : Type 0} (r : Result (Step Record) E) (v : Shape) (new : Front) (shown : Shown) (skip : Skipped) → RetrievalFits v shown → is_sorted v.strategy ≡ true → SkipsBy v skip → IfOk r (FrontStep v new shown skip) → IfOk r (LeastOf v shown)
 front_least (Ok s) v new shown skip f sorted by step = one_least v new shown skip s f sorted by step
 front_least (Err e) v new shown skip f sorted by step = tt

@@ -10,8 +10,9 @@ use Rattle.rv_judge.specs.declared.events.Strategy.TheVariants.{FastFirst}
 use Rattle.rv_judge.specs.declared.judging.Facts.{Facts}
 use Rattle.rv_judge.specs.Verdicts.{Ruling}
 use Rattle.rv_reader.specs.Shown.{Shown}
-use Rattle.rv_scan.specs.declared.skip.Scanned.{Scanned}
-use Rattle.rv_scan.specs.declared.skip.Scanned.TheVariants.{Found, Working, End}
+use Rattle.rv_reader.specs.declared.step.Step.{Step}
+use Rattle.rv_value.specs.declared.record.Record.{Record}
+use Rattle.rv_reader.specs.declared.step.Step.TheVariants.{Row, Working, End}
 use Rattle.rv_jscan.specs.Joint.{Joint}
 use Rattle.rv_final.specs.Work.{Falls, Tries}
 use Rattle.rv_retrieval.specs.Accounts.{first_fresh, fresh_of}
@@ -41,8 +42,8 @@ passed_effort v mid shown both e fewer =
 pub tries_from : (before after : Counts) (old mid new : ℕ) → mid ≤ old → Tries before after mid new → Tries before after old new
 tries_from before after old mid new passed t = let less = t.less in record { once = t.once; less = omega arith }
 
-pub falls_from : {E : Type 0} (r : Result Scanned E) (before after : Counts) (old mid new : ℕ) → mid ≤ old → IfOk r (λ s. Falls s before after mid new) → IfOk r (λ s. Falls s before after old new)
-falls_from (Ok (Found x)) before after old mid new passed f = (let less : new < mid = f in lt_of_lt_of_le less passed)
+pub falls_from : {E : Type 0} (r : Result (Step Record) E) (before after : Counts) (old mid new : ℕ) → mid ≤ old → IfOk r (λ s. Falls s before after mid new) → IfOk r (λ s. Falls s before after old new)
+falls_from (Ok (Row x)) before after old mid new passed f = (let less : new < mid = f in lt_of_lt_of_le less passed)
 falls_from (Ok Working) before after old mid new passed f = (let less : new < mid = f in lt_of_lt_of_le less passed)
 falls_from (Ok End) before after old mid new passed f = f
 falls_from (Err x) before after old mid new passed f = tt
@@ -54,7 +55,7 @@ fast_kind v both fast =
     let fresh : fresh_of v ≡ first_fresh v = ap (λ (x : Control). if building x && fast_first v.strategy then first_fresh v else None) both ∙ ap (λ (x : Strategy). if fast_first x then first_fresh v else None) fast in
     ap (λ (x : Control). kind_of x v.strategy (fresh_of v)) both ∙ ap (λ (x : Strategy). while_both x (fresh_of v)) fast ∙ ap (while_both FastFirst) fresh
 
-pub borrow_does : {E : Type 0} (r : Result Scanned E) (would : ℕ → Facts → Ruling) (state : ℕ) (shown : Shown) (c d : Counts) (v mid new : Shape) (key : ℕ) → kind_of v.control v.strategy (fresh_of v) ≡ Borrow key → mid ≡ record v { borrowed = mid.borrowed } → v.borrowed ≤ mid.borrowed → IfOk r (λ s. Borrows key shown c d s mid new) → IfOk r (λ s. DoesIts would state state shown c d s v new)
+pub borrow_does : {E : Type 0} (r : Result (Step Record) E) (would : ℕ → Facts → Ruling) (state : ℕ) (shown : Shown) (c d : Counts) (v mid new : Shape) (key : ℕ) → kind_of v.control v.strategy (fresh_of v) ≡ Borrow key → mid ≡ record v { borrowed = mid.borrowed } → v.borrowed ≤ mid.borrowed → IfOk r (λ s. Borrows key shown c d s mid new) → IfOk r (λ s. DoesIts would state state shown c d s v new)
 borrow_does (Ok s) would state shown c d v mid new key k e on h =
     let b = subst (λ (x : Shape). Borrows key shown c d s x new) e h in
     subst (λ (x : Kind). DoesAs x would state state shown c d s v new) (sym k) (refl, record { further = lt_of_le_of_lt on h.further; read = b.read; looks = b.looks; left = b.left })

@@ -21,8 +21,8 @@ use Rattle.rv_reader.specs.declared.reader.Chunk.{Chunk}
 use Rattle.rv_reader.specs.Shown.{Shown}
 use Rattle.rv_reader.specs.Tables.{row_at}
 use Rattle.rv_scan.specs.Alongs.{looked}
-use Rattle.rv_scan.specs.declared.skip.Scanned.{Scanned}
-use Rattle.rv_scan.specs.declared.skip.Scanned.TheVariants.{Found, Working}
+use Rattle.rv_reader.specs.declared.step.Step.{Step}
+use Rattle.rv_reader.specs.declared.step.Step.TheVariants.{Row, Working}
 use Rattle.rv_jscan.specs.declared.jscan.Given.{Given}
 use Rattle.rv_jscan.specs.declared.jscan.Given.TheVariants.{Accepted, Stale}
 use Rattle.rv_jscan.specs.Joint.{IsNextLeaf, Joint, under_way}
@@ -59,7 +59,7 @@ borrowed_none v new key shown c d e l r =
     }
 
 -- the row of a fresh key was given
-pub borrowed_row : (v mid new : Shape) (row : RowNo) (found : Record) (shown : Shown) (c d : Counts) → mid ≡ record v { borrowed = v.borrowed + 1 } → Remembered row.0 mid new → Found found ≡ looked v.query.only (row_at (rows_of v shown) row.0) → d ≡ record_read c → Borrows row.0 shown c d (Found found) v new
+pub borrowed_row : (v mid new : Shape) (row : RowNo) (found : Record) (shown : Shown) (c d : Counts) → mid ≡ record v { borrowed = v.borrowed + 1 } → Remembered row.0 mid new → Row found ≡ looked v.query.only (row_at (rows_of v shown) row.0) → d ≡ record_read c → Borrows row.0 shown c d (Row found) v new
 borrowed_row v mid new row found shown c d e m l r =
     let next : Remembered row.0 (record v { borrowed = v.borrowed + 1 }) new = subst (λ (x : Shape). Remembered row.0 x new) e m in
     let at : new.borrowed ≡ v.borrowed + 1 = ap (λ (x : Shape). x.borrowed) next.same ∙ kept (record v { borrowed = v.borrowed + 1; delivered = new.delivered }) in
@@ -76,13 +76,13 @@ borrowed_row v mid new row found shown c d e m l r =
       | inr off ↦ rw off refl
     ]
 
-    number : (o : Option Record) → row_at (rows_of v shown) row.0 ≡ o → Found found ≡ looked v.query.only o → row.0 ≡ found.row.0
-    number None e l = let bad : Found found ≡ Working = l in absurd (cc)
+    number : (o : Option Record) → row_at (rows_of v shown) row.0 ≡ o → Row found ≡ looked v.query.only o → row.0 ≡ found.row.0
+    number None e l = let bad : Row found ≡ Working = l in absurd (cc)
     number (Some x) e l = by (qualifies v.query.only x.values) l
       where
-        by : (b : Bool) → Found found ≡ (if b then Found x else Working) → row.0 ≡ found.row.0
+        by : (b : Bool) → Row found ≡ (if b then Row x else Working) → row.0 ≡ found.row.0
         by true l = let same : found ≡ x = cc in sym (found_row (rows_of v shown) row.0 x e) ∙ ap (λ (y : Record). y.row.0) (sym same)
-        by false l = let bad : Found found ≡ Working = l in absurd (cc)
+        by false l = let bad : Row found ≡ Working = l in absurd (cc)
 
 -- A background step.
 
@@ -129,7 +129,7 @@ passed_first would state after old mid new e on f s =
     same = sym (ap fresh_of e) ∙ ap (λ (o : Option ℕ). if building mid.control && fast_first mid.strategy then o else None) f ∙ ap (λ (x : Shape). if building x.control && fast_first x.strategy then first_fresh old else None) e
 
 -- a fast-first step without a fresh key
-pub fast_behind : {E : Type 0} (r : Result Scanned E) (would : ℕ → Facts → Ruling) (state after : ℕ) (shown : Shown) (c d : Counts) (v mid new : Shape) → v.control ≡ Building → v.strategy ≡ FastFirst → mid ≡ record v { borrowed = mid.borrowed } → v.borrowed ≤ mid.borrowed → first_fresh mid ≡ first_fresh v → first_fresh v ≡ None → IfOk r (λ s. (s ≡ Working) × StepsBackground would state after mid new) → IfOk r (λ s. DoesIts would state after shown c d s v new)
+pub fast_behind : {E : Type 0} (r : Result (Step Record) E) (would : ℕ → Facts → Ruling) (state after : ℕ) (shown : Shown) (c d : Counts) (v mid new : Shape) → v.control ≡ Building → v.strategy ≡ FastFirst → mid ≡ record v { borrowed = mid.borrowed } → v.borrowed ≤ mid.borrowed → first_fresh mid ≡ first_fresh v → first_fresh v ≡ None → IfOk r (λ s. (s ≡ Working) × StepsBackground would state after mid new) → IfOk r (λ s. DoesIts would state after shown c d s v new)
 fast_behind (Err x) would state after shown c d v mid new ec es e on f none b = tt
 fast_behind (Ok s) would state after shown c d v mid new ec es e on f none b =
     let fresh : fresh_of v ≡ None = ap (λ (x : Control). if building x && fast_first v.strategy then first_fresh v else None) ec ∙ ap (λ (x : Strategy). if fast_first x then first_fresh v else None) es ∙ none in
@@ -142,6 +142,6 @@ background_kind control strategy fresh both (inl table) = rw (both, table) refl
 background_kind control strategy fresh both (inr (inl alone)) = rw (both, alone) refl
 background_kind control strategy fresh both (inr (inr union)) = rw (both, union) refl
 
-pub piece_does : {E : Type 0} (r : Result Scanned E) (would : ℕ → Facts → Ruling) (state after : ℕ) (shown : Shown) (c d : Counts) (old new : Shape) → old.control ≡ Building → (old.strategy ≡ Table) ⊎ ((old.strategy ≡ BackgroundOnly) ⊎ (old.strategy ≡ Union)) → IfOk r (λ s. (s ≡ Working) × StepsBackground would state after old new) → IfOk r (λ s. DoesIts would state after shown c d s old new)
+pub piece_does : {E : Type 0} (r : Result (Step Record) E) (would : ℕ → Facts → Ruling) (state after : ℕ) (shown : Shown) (c d : Counts) (old new : Shape) → old.control ≡ Building → (old.strategy ≡ Table) ⊎ ((old.strategy ≡ BackgroundOnly) ⊎ (old.strategy ≡ Union)) → IfOk r (λ s. (s ≡ Working) × StepsBackground would state after old new) → IfOk r (λ s. DoesIts would state after shown c d s old new)
 piece_does (Ok s) would state after shown c d old new both which h = subst (λ (k : Kind). DoesAs k would state after shown c d s old new) (sym (background_kind old.control old.strategy (fresh_of old) both which)) h
 piece_does (Err e) would state after shown c d old new both which h = tt

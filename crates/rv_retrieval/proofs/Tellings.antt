@@ -35,8 +35,8 @@ use Rattle.rv_jscan.specs.Joint.{Joint, is_empty_list, plan_at, present, under_w
 use Rattle.rv_jscan.specs.Pieces.{Pieced}
 use Rattle.rv_jscan.specs.Steps.{Accepts, abandoned, completed, counts_read, going, held_next}
 use Rattle.rv_reader.specs.Shown.{Shown}
-use Rattle.rv_scan.specs.declared.skip.Scanned.{Scanned}
-use Rattle.rv_scan.specs.declared.skip.Scanned.TheVariants.{Found, Working, End}
+use Rattle.rv_reader.specs.declared.step.Step.{Step}
+use Rattle.rv_reader.specs.declared.step.Step.TheVariants.{Row, Working, End}
 use Rattle.rv_retrieval.specs.Accounts.{account_of, fresh_of}
 use Rattle.rv_retrieval.specs.Given.{Answers, TakesLeaf, TakesLeafBy, TakesPiece, more_behind}
 use Rattle.rv_retrieval.specs.Rulings.{GivesOn, Obeyed, Obeys, dropping, going_on, gone, listed, ruled, scan_over}
@@ -245,18 +245,18 @@ final_over v at t = final_tells v.trace.strategy v.strategy v.control v.joint.pl
     some FinalTable h = omega arith
     some Done h = absurd (cc)
 
-walked : (s : Scanned) (v new : Shape) → is_led v.strategy ≡ true → (building v.control || foreground_alone v.control) ≡ true → new ≡ ended_by FrontEnded s v → Tells v → Tells new
-walked (Found r) v new led at e t = subst Tells (sym e) t
+walked : (s : Step Record) (v new : Shape) → is_led v.strategy ≡ true → (building v.control || foreground_alone v.control) ≡ true → new ≡ ended_by FrontEnded s v → Tells v → Tells new
+walked (Row r) v new led at e t = subst Tells (sym e) t
 walked Working v new led at e t = subst Tells (sym e) t
 walked End v new led at e t = subst Tells (sym e) (front_over v led at t)
 
-passed : (s : Scanned) (v new : Shape) → final v.control ≡ true → new ≡ ended_by FinalEnded s v → Tells v → Tells new
-passed (Found r) v new at e t = subst Tells (sym e) t
+passed : (s : Step Record) (v new : Shape) → final v.control ≡ true → new ≡ ended_by FinalEnded s v → Tells v → Tells new
+passed (Row r) v new at e t = subst Tells (sym e) t
 passed Working v new at e t = subst Tells (sym e) t
 passed End v new at e t = subst Tells (sym e) (final_over v at t)
 
-remembers : (s : Scanned) (v new : Shape) → (building v.control && (fast_first v.strategy || index_only v.strategy)) ≡ true → (s ≡ End → is_led v.strategy ≡ true) → RemembersBy s v new → Tells v → Tells new
-remembers (Found r) v new can led m t = subst Tells (sym m.same) (filled_tells (record v { delivered = new.delivered }) can t)
+remembers : (s : Step Record) (v new : Shape) → (building v.control && (fast_first v.strategy || index_only v.strategy)) ≡ true → (s ≡ End → is_led v.strategy ≡ true) → RemembersBy s v new → Tells v → Tells new
+remembers (Row r) v new can led m t = subst Tells (sym m.same) (filled_tells (record v { delivered = new.delivered }) can t)
 remembers Working v new can led m t = subst Tells (sym m) t
 remembers End v new can led m t = subst Tells (sym m) (front_over v (led refl) (either (building v.control) (fast_first v.strategy || index_only v.strategy) (foreground_alone v.control) can) t)
   where
@@ -267,12 +267,12 @@ no_end : (only : List (List Atom)) (found : Option Record) → looked only found
 no_end only None e = let bad : Working ≡ End = e in cc
 no_end only (Some r) e = go (qualifies only r.values) e
   where
-    go : (b : Bool) → (if b then Found r else Working) ≡ End → ⊥
-    go true e = let bad : Found r ≡ End = e in cc
+    go : (b : Bool) → (if b then Row r else Working) ≡ End → ⊥
+    go true e = let bad : Row r ≡ End = e in cc
     go false e = let bad : Working ≡ End = e in cc
 
 -- a foreground step
-pub steps_tells : (would : ℕ → Facts → Ruling) (state after : ℕ) (shown : Shown) (c d : Counts) (s : Scanned) (v new : Shape) → (source v ≡ Ahead → is_led v.strategy ≡ true) → DoesIts would state after shown c d s v new → Tells v → Tells new
+pub steps_tells : (would : ℕ → Facts → Ruling) (state after : ℕ) (shown : Shown) (c d : Counts) (s : Step Record) (v new : Shape) → (source v ≡ Ahead → is_led v.strategy ≡ true) → DoesIts would state after shown c d s v new → Tells v → Tells new
 steps_tells would state after shown c d s v new led does t = go v.control v.strategy (fresh_of v) refl refl does
   where
     can : (now : Control) (st : Strategy) → building now ≡ true → (fast_first st || index_only st) ≡ true → (building now && (fast_first st || index_only st)) ≡ true
@@ -281,7 +281,7 @@ steps_tells would state after shown c d s v new led does t = go v.control v.stra
     behind : is_background v.control ≡ true → StepsBackground would state after v new → Tells new
     behind back b = behind_tells (is_awaiting v) would state after (record v { borrowed = b.passed }) new (λ h. back) b.does t
 
-    ended_not : {key : ℕ} (s : Scanned) → Borrows key shown c d s v new → s ≡ End → is_led v.strategy ≡ true
+    ended_not : {key : ℕ} (s : Step Record) → Borrows key shown c d s v new → s ≡ End → is_led v.strategy ≡ true
     ended_not s b e = absurd (no_end v.query.only (row_at (rows_of v shown) _) (sym b.looks ∙ e))
 
     go : (now : Control) (st : Strategy) (fresh : Option ℕ) → v.control ≡ now → v.strategy ≡ st → DoesAs (kind_of now st fresh) would state after shown c d s v new → Tells new

@@ -3,11 +3,9 @@
 -- table and the final list.
 use Rattle.std.specs.Prelude.{◌≡◌, ℕ, ◌+◌, ◌-◌, ◌*◌, ◌<◌, ◌≤◌, true, List, [], ◌∷◌, length, drop, Option, None, if◌then◌else◌}
 use Rattle.rv_value.specs.declared.record.IndexEntry.{IndexEntry}
-use Rattle.rv_judge.specs.declared.counting.Counts.{Counts}
 use Rattle.rv_judge.specs.declared.events.Control.{Control}
 use Rattle.rv_judge.specs.declared.events.Control.TheVariants.{Building, ForegroundAlone, BackgroundAlone, FinalList, FinalTable, Done}
 use Rattle.rv_judge.specs.Account.{life_bound}
-use Rattle.rv_judge.specs.Counting.{reads}
 use Rattle.rv_reader.specs.Leaves.{run_from}
 use Rattle.rv_reader.specs.Shown.{Shown}
 use Rattle.rv_scan.specs.Alongs.{leaf_work}
@@ -15,8 +13,6 @@ use Rattle.rv_scan.specs.Places.{work as pages_work}
 use Rattle.rv_jscan.specs.declared.jscan.ScanPlan.{ScanPlan}
 use Rattle.rv_jscan.specs.Joint.{Joint, leaves_ahead, under_way}
 use Rattle.rv_choice.specs.declared.query.Query.{Query}
-use Rattle.rv_retrieval.specs.declared.steps.Fg.{Fg}
-use Rattle.rv_retrieval.specs.declared.steps.Fg.TheVariants.{Row, Working as FgWorking, End as FgEnd}
 use Rattle.rv_scan.specs.Fronts.{walk_of}
 use Rattle.rv_retrieval.specs.Shape.{Shape, front_entries, is_background, is_building, is_led, lending, rows_of}
 pub use Rattle.rv_final.specs.LaneWork.{GiveSpends}
@@ -83,12 +79,6 @@ sum_of Done back front table keys = 0
 abbrev pub effort : Shape → Shown → ℕ
 effort v shown =
     sum_of v.control (back_work v.joint v.borrowed shown) (front_work v shown) (table_work v shown) (keys_work v)
-
--- WHAT A FOREGROUND'S STEP SPENDS: it lowers the effort by at least its reads, and unless it ends by at least one
-abbrev pub FgSpends : Fg → Counts → Counts → ℕ → ℕ → Type 0
-FgSpends (Row r) before after old new = (reads after + new ≤ reads before + old) × (new < old)
-FgSpends FgWorking before after old new = (reads after + new ≤ reads before + old) × (new < old)
-FgSpends FgEnd before after old new = (reads after + new ≤ reads before + old) × (new ≤ old)
 
 -- Where pieces are awaited a scan is under way, and where both sides run the strategy has a foreground.
 pub record Awaiting (v : Shape) : Type 0 where

@@ -11,11 +11,7 @@ use Rattle.rv_jscan.specs.declared.jscan.ScanPlan.{ScanPlan}
 use Rattle.rv_jscan.specs.Entries.{Apart}
 use Rattle.rv_jscan.specs.Joint.{CanMake, meets, plan_at}
 use Rattle.rv_choice.specs.declared.query.Query.{Query}
-use Rattle.rv_scan.specs.declared.skip.Scanned.{Scanned}
-use Rattle.rv_scan.specs.declared.skip.Scanned.TheVariants.{Found, Working, End}
-use Rattle.rv_retrieval.specs.declared.steps.Fg.{Fg}
-use Rattle.rv_retrieval.specs.declared.steps.Fg.TheVariants.{Row, Working as FgWorking, End as FgEnd}
-use Rattle.rv_final.specs.Rest.{IsLeast, TakesOut, qualifies_at}
+use Rattle.rv_final.specs.Rest.{qualifies_at}
 use Rattle.rv_retrieval.specs.Fronts.{front_left}
 use Rattle.rv_scan.specs.Fronts.{Front, walk_of}
 use Rattle.rv_retrieval.specs.Shape.{FrontFits, Shape, is_led, is_sorted, rest}
@@ -47,17 +43,3 @@ pub record Opens (query : Query) (strategy : Strategy) (scans : List ScanPlan) (
   pub all : is_led strategy ≡ true → (n : ℕ) → qualifies_at query.only (shown.rows query.table query.snap) n ≡ true
       → front_left front (shown.entries (walk_of front).index query.snap) n ≡ true
   pub ordered : is_sorted strategy ≡ false → query.order ≡ []
-
--- a step's answer as the caller sees it
-abbrev pub fg_of : Scanned → Fg
-fg_of (Found r) = Row r
-fg_of Working = FgWorking
-fg_of End = FgEnd
-
--- WHAT A STEP DOES: it takes one record out of the rest, least in the order columns, or leaves the rest, or the rest
--- is empty
-abbrev pub GivesStep : Shape → Shape → Shown → Fg → Type 0
-GivesStep old new shown (Row r) =
-    TakesOut old.query.need r (rest old shown) (rest new shown) × IsLeast old.query.order r (rest old shown)
-GivesStep old new shown FgWorking = rest new shown ≡ rest old shown
-GivesStep old new shown FgEnd = (rest old shown ≡ []) × (rest new shown ≡ [])

@@ -22,8 +22,8 @@ use Rattle.rv_jscan.specs.Joint.{Joint, JointFits, CanTake, meets, plan_at}
 use Rattle.rv_choice.specs.declared.query.Query.{Query}
 use Rattle.rv_retrieval.specs.Fronts.{front_left}
 use Rattle.rv_scan.specs.Fronts.{Front, CanFront, walk_of}
-use Rattle.rv_scan.specs.declared.skip.Scanned.{Scanned}
-use Rattle.rv_scan.specs.declared.skip.Scanned.TheVariants.{Found, Working, End}
+use Rattle.rv_reader.specs.declared.step.Step.{Step}
+use Rattle.rv_reader.specs.declared.step.Step.TheVariants.{Row, Working, End}
 use Rattle.rv_final.specs.Rest.{IsLeast, Steps, rest_by, qualifies_at, Agree, has_row}
 use Rattle.rv_final.specs.Stage.{LastFits, Unbegun, keys_left}
 
@@ -201,18 +201,18 @@ pub record Delivers (old new : Shape) (row : ℕ) : Type 0 where
   pub room : length new.delivered < 1024 → new.control ≡ old.control
 
 -- what a step does to the rest, and what it leaves where memory was wanting
-abbrev pub DoesStep : Shape → Shape → Shown → Scanned → Type 0
+abbrev pub DoesStep : Shape → Shape → Shown → Step Record → Type 0
 DoesStep old new shown scanned = Steps old.query.need old.query.order scanned (rest old shown) (rest new shown)
 
 -- an end leads to the last control
-abbrev pub EndsIn : Shape → Scanned → Type 0
-EndsIn v (Found r) = Unit {0}
+abbrev pub EndsIn : Shape → Step Record → Type 0
+EndsIn v (Row r) = Unit {0}
 EndsIn v Working = Unit {0}
 EndsIn v End = v.control ≡ Done
 
 -- the record that a foreground's scan gives is least of those that are left
-abbrev pub LeastOf : Shape → Shown → Scanned → Type 0
-LeastOf v shown (Found r) =
+abbrev pub LeastOf : Shape → Shown → Step Record → Type 0
+LeastOf v shown (Row r) =
     IsLeast v.query.order r (rest_by (front_left v.front (front_entries v shown)) v.query.only (rows_of v shown))
 LeastOf v shown Working = Unit {0}
 LeastOf v shown End = Unit {0}

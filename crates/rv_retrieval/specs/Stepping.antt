@@ -17,17 +17,16 @@ use Rattle.rv_reader.specs.Tables.{row_at}
 use Rattle.rv_scan.specs.Alongs.{looked}
 use Rattle.rv_scan.specs.Places.{PageReads, PageTurns}
 use Rattle.rv_scan.specs.Told.{KeyReads}
-use Rattle.rv_scan.specs.declared.skip.Scanned.{Scanned}
-use Rattle.rv_scan.specs.declared.skip.Scanned.TheVariants.{Found, Working, End}
+use Rattle.rv_reader.specs.declared.step.Step.{Step}
+use Rattle.rv_value.specs.declared.record.Record.{Record}
+use Rattle.rv_reader.specs.declared.step.Step.TheVariants.{Row, Working, End}
 use Rattle.rv_jscan.specs.declared.jscan.Given.TheVariants.{Accepted}
 use Rattle.rv_jscan.specs.Joint.{Joint, under_way}
 use Rattle.rv_jscan.specs.Pieces.{Pieced, may}
 use Rattle.rv_jscan.specs.Steps.{Awaits, TakeLeaves, steps_read}
 use Rattle.rv_retrieval.specs.Accounts.{fresh_of}
 use Rattle.rv_retrieval.specs.Effort.{Awaiting, keys_work}
-use Rattle.rv_retrieval.specs.declared.steps.Fg.{Fg}
 use Rattle.rv_retrieval.specs.Given.{TakesLeaf}
-use Rattle.rv_retrieval.specs.Opens.{fg_of}
 use Rattle.rv_retrieval.specs.Rulings.{GivesOn, gone}
 use Rattle.rv_retrieval.specs.Shape.{Shape, is_background, is_sorted, rows_of}
 use Rattle.rv_final.specs.Stage.{FetchesKey, first_key}
@@ -78,19 +77,19 @@ pub record Remembered (row : ℕ) (old new : Shape) : Type 0 where
   pub adds : AddsRow old.delivered new.delivered row
   pub same : new ≡ filled (record old { delivered = new.delivered })
 
-abbrev pub RemembersBy : Scanned → Shape → Shape → Type 0
-RemembersBy (Found r) old new = Remembered r.row.0 old new
+abbrev pub RemembersBy : Step Record → Shape → Shape → Type 0
+RemembersBy (Row r) old new = Remembered r.row.0 old new
 RemembersBy Working old new = new ≡ old
 RemembersBy End old new = new ≡ gone FrontEnded old
 
 -- the record of a row was read; a sorted foreground reads none that the complete list cannot have
-pub record WalkRow (v : Shape) (shown : Shown) (c d : Counts) (s : Scanned) : Type 0 where
+pub record WalkRow (v : Shape) (shown : Shown) (c d : Counts) (s : Step Record) : Type 0 where
   pub row : ℕ
   pub listed : is_sorted v.strategy ≡ true → may v.joint.list row ≡ true
   pub read : d ≡ record_read c
   pub looks : s ≡ looked v.query.only (row_at (rows_of v shown) row)
 
-abbrev pub WalkReads : Shape → Shown → Counts → Counts → Scanned → Type 0
+abbrev pub WalkReads : Shape → Shown → Counts → Counts → Step Record → Type 0
 WalkReads v shown c d s = WalkRow v shown c d s ⊎ (d.records ≡ c.records)
 
 -- the first key of the complete list that is left and was not delivered
@@ -98,17 +97,17 @@ abbrev pub first_left : Shape → Option ℕ
 first_left v = first_key v.joint.list (Some v.delivered) v.at
 
 -- that key's row is fetched, and given exactly where it qualifies; where there is none it is the end
-abbrev pub ListReads : Shape → Shown → Counts → Counts → Scanned → Type 0
+abbrev pub ListReads : Shape → Shown → Counts → Counts → Step Record → Type 0
 ListReads v shown c d s = FetchesKey (first_left v) v.query.only (rows_of v shown) c d s
 
 -- a source at its end leads to the last control
-abbrev pub ended_by : Happening → Scanned → Shape → Shape
-ended_by happening (Found r) v = v
+abbrev pub ended_by : Happening → Step Record → Shape → Shape
+ended_by happening (Row r) v = v
 ended_by happening Working v = v
 ended_by happening End v = gone happening v
 
 -- the row of a fresh key, which is then behind, is fetched, and given exactly where it qualifies
-pub record Borrows (key : ℕ) (shown : Shown) (before after : Counts) (s : Scanned) (old new : Shape) : Type 0 where
+pub record Borrows (key : ℕ) (shown : Shown) (before after : Counts) (s : Step Record) (old new : Shape) : Type 0 where
   pub further : old.borrowed < new.borrowed
   pub read : after ≡ record_read before
   pub looks : s ≡ looked old.query.only (row_at (rows_of old shown) key)
@@ -143,7 +142,7 @@ kind_of FinalTable strategy fresh = NextPage
 kind_of Done strategy fresh = Over
 
 -- what each of them changes; the judge is asked by a background step alone
-abbrev pub DoesAs : Kind → (ℕ → Facts → Ruling) → ℕ → ℕ → Shown → Counts → Counts → Scanned → Shape → Shape → Type 0
+abbrev pub DoesAs : Kind → (ℕ → Facts → Ruling) → ℕ → ℕ → Shown → Counts → Counts → Step Record → Shape → Shape → Type 0
 DoesAs (Borrow key) would state after shown c d s old new = (after ≡ state) × Borrows key shown c d s old new
 DoesAs Piece would state after shown c d s old new = (s ≡ Working) × StepsBackground would state after old new
 DoesAs Walk would state after shown c d s old new =
@@ -159,7 +158,7 @@ DoesAs NextPage would state after shown c d s old new =
 DoesAs Over would state after shown c d s old new = (after ≡ state) × (s ≡ End) × (new ≡ old)
 
 -- WHAT A FOREGROUND STEP DOES
-abbrev pub DoesIts : (ℕ → Facts → Ruling) → ℕ → ℕ → Shown → Counts → Counts → Scanned → Shape → Shape → Type 0
+abbrev pub DoesIts : (ℕ → Facts → Ruling) → ℕ → ℕ → Shown → Counts → Counts → Step Record → Shape → Shape → Type 0
 DoesIts would state after shown c d s old new =
     DoesAs (kind_of old.control old.strategy (fresh_of old)) would state after shown c d s old new
 
@@ -182,7 +181,7 @@ abbrev pub MayReadIts : Shape → Counts → Counts → Type 0
 MayReadIts v c d = MayRead (kind_of v.control v.strategy (fresh_of v)) v c d
 
 -- what it reads by its answer: a scan reads nothing where it gives a row of the leaf or page that it holds
-abbrev pub ReadsAs : Kind → Shape → Scanned → Counts → Counts → Type 0
+abbrev pub ReadsAs : Kind → Shape → Step Record → Counts → Counts → Type 0
 ReadsAs (Borrow key) v s c d = d ≡ record_read c
 ReadsAs Piece v s c d = d ≡ piece_read v c
 ReadsAs Walk v s c d = FrontReads v.front.alone s c d
@@ -191,7 +190,7 @@ ReadsAs NextKey v s c d = OneAtMost record_read c d
 ReadsAs NextPage v s c d = PageReads s c d
 ReadsAs Over v s c d = d ≡ c
 
-abbrev pub ReadsIts : Shape → Counts → Counts → Scanned → Type 0
+abbrev pub ReadsIts : Shape → Counts → Counts → Step Record → Type 0
 ReadsIts v c d s = ReadsAs (kind_of v.control v.strategy (fresh_of v)) v s c d
 
 -- WHAT A STEP LEAVES THAT FOUND NO MEMORY: the awaited leaf may have been taken and keys of delivered rows passed
@@ -204,11 +203,9 @@ pub record OnlyTakes (old new : Shape) : Type 0 where
   pub fewer : keys_work new ≤ keys_work old
 
 -- what it does and reads, and then what it read is counted
-pub record StepsAs (would : ℕ → Facts → Ruling) (state after : ℕ) (shown : Shown) (c d : Counts) (fg : Fg)
+pub record StepsAs (would : ℕ → Facts → Ruling) (state after : ℕ) (shown : Shown) (c d : Counts) (fg : Step Record)
     (old new : Shape) : Type 0 where
-  pub scanned : Scanned
   pub stepped : Shape
-  pub answers : fg ≡ fg_of scanned
-  pub does : DoesIts would state after shown c d scanned old stepped
-  pub reads : ReadsIts old c d scanned
+  pub does : DoesIts would state after shown c d fg old stepped
+  pub reads : ReadsIts old c d fg
   pub counts : new ≡ record stepped { trace = counted stepped.trace c d }

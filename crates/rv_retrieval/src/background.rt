@@ -20,9 +20,8 @@ ghost use Rattle.rv_retrieval.specs.Short.{Settled};
 use crate::retrieval::Retrieval;
 use rv_jscan::{Given, Sieved, Taken};
 use rv_judge::{Control, Event, Happening, Judge, Steps, Strategy, Verdict, course};
-use rv_reader::Reader;
-use rv_scan::Scanned;
-use rv_value::NoMemory;
+use rv_reader::{Reader, Step};
+use rv_value::{NoMemory, Record};
 
 /// The background of a retrieval: its pieces, what becomes of its scans, and where a happening leads.
 impl Retrieval {
@@ -294,14 +293,14 @@ impl Retrieval {
         reader: &R,
         judge: &mut Box<dyn Judge>,
         steps: &mut Steps<R::Ledger>,
-    ) -> Result<Scanned, NoMemory>
+    ) -> Result<Step<Record>, NoMemory>
         requires fits { RetrievalFits self.old (R.shown reader.now) }
         ensures steady { Steady self.old self.new }
         ensures fits { RetrievalFits self.new (R.shown reader.now) }
         ensures step { IfOk result (DoesStep self.old self.new (R.shown reader.now)) }
         ensures ends { IfOk result (EndsIn self.new) }
         ensures err { OnErr result (rest self.new (R.shown reader.now) ≡ rest self.old (R.shown reader.now)) }
-        ensures does { IfOk result (λ s. (s ≡ Scanned.Working) × StepsBackground (would judge.old) (state judge.old) (state judge.new) self.old self.new) }
+        ensures does { IfOk result (λ s. (s ≡ Step.Working) × StepsBackground (would judge.old) (state judge.old) (state judge.new) self.old self.new) }
         ensures quiet { OnErr result (state judge.new ≡ state judge.old) }
         ensures stays { would judge.new ≡ would judge.old }
         ensures course { OnErr result (SameCourse self.old self.new) }
@@ -311,13 +310,13 @@ impl Retrieval {
         ensures falls { is_background self.old.control ≡ true → Awaiting self.old → IfOk result (λ s. Falls s steps.old steps.new (effort self.old (R.shown reader.now)) (effort self.new (R.shown reader.now))) }
     {
         if !self.is_background() {
-            return Ok(Scanned::Working);
+            return Ok(Step::Working);
         }
         let before = self.ended();
         if !self.step_joint(reader, steps)? {
-            return Ok(Scanned::Working);
+            return Ok(Step::Working);
         }
         self.accepted(before, judge);
-        Ok(Scanned::Working)
+        Ok(Step::Working)
     }
 }

@@ -7,4 +7,3 @@ mod retrieval;
 mod steps;
 
 pub use retrieval::Retrieval;
-pub use steps::Fg;

@@ -37,9 +37,9 @@ use rv_final::{Final, examine};
 use rv_jscan::{Given, Jscan, PieceId, ScanPlan, Sieved, Taken};
 use rv_judge::{Control, Counts, Event, Facts, Steps, Strategy, Trace, project};
 use rv_keylist::{Delivered, KeyList};
-use rv_reader::Reader;
+use rv_reader::{Reader, Step};
 use rv_restrict::Restriction;
-use rv_scan::{Front, Scanned, Skip};
+use rv_scan::{Front, Skip};
 use rv_value::{NoMemory, Record, RowNo};
 use std::alloc::Global;
 use std::marker::Model;
@@ -337,7 +337,7 @@ impl Retrieval {
         &mut self,
         reader: &R,
         steps: &mut Steps<R::Ledger>,
-    ) -> Result<Scanned, NoMemory>
+    ) -> Result<Step<Record>, NoMemory>
         requires fits { RetrievalFits self.old (R.shown reader.now) }
         requires led { is_led self.old.strategy ≡ true }
         ensures same { self.new ≡ record self.old { front = self.new.front } }
@@ -366,7 +366,7 @@ impl Retrieval {
         &mut self,
         reader: &R,
         steps: &mut Steps<R::Ledger>,
-    ) -> Result<Scanned, NoMemory>
+    ) -> Result<Step<Record>, NoMemory>
         requires fits { RetrievalFits self.old (R.shown reader.now) }
         ensures same { self.new ≡ record self.old { at = self.new.at } }
         ensures marks { let shown = R.shown reader.now in IfOk result (λ s. StepMarks self.old.query.need self.old.query.only (rows_of self.old shown) s (left_at Source.Keys self.old shown) (left_at Source.Keys self.new shown)) }
@@ -394,7 +394,7 @@ impl Retrieval {
         &mut self,
         reader: &R,
         steps: &mut Steps<R::Ledger>,
-    ) -> Result<Scanned, NoMemory>
+    ) -> Result<Step<Record>, NoMemory>
         requires fits { RetrievalFits self.old (R.shown reader.now) }
         ensures same { self.new ≡ record self.old { last = self.new.last } }
         ensures last { LastFits self.old.query.table self.old.query.snap self.new.last (R.shown reader.now) }

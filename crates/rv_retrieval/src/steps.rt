@@ -9,54 +9,32 @@ ghost use Rattle.rv_scan.specs.Told.{KeyReads};
 ghost use Rattle.rv_jscan.specs.Joint.{under_way};
 ghost use Rattle.rv_retrieval.specs.Accounts.{IsFresh, first_fresh};
 ghost use Rattle.rv_scan.specs.Fronts.{SameFront, FrontMayRead, FrontReads};
-ghost use Rattle.rv_retrieval.specs.Opens.{GivesStep, fg_of};
 ghost use Rattle.rv_retrieval.specs.Room.{must_remember};
 ghost use Rattle.rv_retrieval.specs.Runs.{SameCourse, Tells};
 ghost use Rattle.rv_retrieval.specs.Shape.{Delivers, DoesStep, EndsIn, RetrievalFits, Source, is_background, is_building, is_index_only, rest, source, lending, rows_of};
 ghost use Rattle.rv_retrieval.specs.Stepping.{Borrows, DoesIts, MayReadIts, OnlyTakes, ReadsIts, Remembered, RemembersBy, Steady, StepsAs, WalkReads, ended_by};
 ghost use Rattle.rv_judge.specs.Tracing.{CountsRise, SameCounts};
-ghost use Rattle.rv_retrieval.specs.Effort.{Awaiting, FgSpends, effort, to_borrow};
+ghost use Rattle.rv_retrieval.specs.Effort.{Awaiting, effort, to_borrow};
+ghost use Rattle.rv_final.specs.LaneWork.{Spends};
 ghost use Rattle.rv_final.specs.Work.{Falls, Tries};
 ghost use Rattle.rv_scan.specs.Reads.{OneAtMost};
 ghost use Rattle.rv_retrieval.specs.Short.{Settled, fetches_left};
 
 use crate::retrieval::Retrieval;
 use rv_judge::{Control, Event, Happening, Judge, Steps, Strategy};
-use rv_reader::Reader;
-use rv_scan::Scanned;
+use rv_reader::{Reader, Step};
 use rv_value::{NoMemory, Record, RowNo};
-
-/// What a foreground step answers.
-#[derive(Drop)]
-pub enum Fg {
-    /// A row of the rest, with every column needed.
-    Row(Record),
-    /// Nothing is left.
-    End,
-    /// No row yet; the rest is as before.
-    Working,
-}
-
-fn answer(scanned: Scanned) -> Fg
-    ensures { result ≡ fg_of scanned }
-{
-    match scanned {
-        Scanned::Found(record) => Fg::Row(record),
-        Scanned::Working => Fg::Working,
-        Scanned::End => Fg::End,
-    }
-}
 
 /// The foreground of a retrieval: what a step is under each control.
 impl Retrieval {
     /// A step through the complete list that ends there leads to the last control.
-    fn finish(&mut self, scanned: &Scanned)
+    fn finish(&mut self, scanned: &Step<Record>)
         ensures { self.new ≡ ended_by Happening.FinalEnded scanned.now self.old }
     {
         match scanned {
-            Scanned::End => self.go(Happening::FinalEnded),
-            Scanned::Found(_) => {}
-            Scanned::Working => {}
+            Step::End => self.go(Happening::FinalEnded),
+            Step::Row(_) => {}
+            Step::Working => {}
         }
     }
 
@@ -65,7 +43,7 @@ impl Retrieval {
         &mut self,
         reader: &R,
         steps: &mut Steps<R::Ledger>,
-    ) -> Result<Scanned, NoMemory>
+    ) -> Result<Step<Record>, NoMemory>
         requires control { self.old.control ≡ Control.FinalTable }
         requires fits { RetrievalFits self.old (R.shown reader.now) }
         ensures steady { Steady self.old self.new }
@@ -81,11 +59,11 @@ impl Retrieval {
         ensures falls { IfOk result (λ s. Falls s steps.old steps.new (effort self.old (R.shown reader.now)) (effort self.new (R.shown reader.now))) }
     {
         match self.scan_last(reader, steps)? {
-            Scanned::Found(found) => Ok(Scanned::Found(found)),
-            Scanned::Working => Ok(Scanned::Working),
-            Scanned::End => {
+            Step::Row(found) => Ok(Step::Row(found)),
+            Step::Working => Ok(Step::Working),
+            Step::End => {
                 self.go(Happening::FinalEnded);
-                Ok(Scanned::End)
+                Ok(Step::End)
             }
         }
     }
@@ -136,7 +114,7 @@ impl Retrieval {
         reader: &R,
         row: RowNo,
         steps: &mut Steps<R::Ledger>,
-    ) -> Result<Scanned, NoMemory>
+    ) -> Result<Step<Record>, NoMemory>
         requires control { self.old.control ≡ Control.Building }
         requires strategy { self.old.strategy ≡ Strategy.FastFirst }
         requires fits { RetrievalFits self.old (R.shown reader.now) }
@@ -156,11 +134,11 @@ impl Retrieval {
             Some(found) => {
                 self.pass_borrowed();
                 self.deliver(row);
-                Ok(Scanned::Found(found))
+                Ok(Step::Row(found))
             }
             None => {
                 self.pass_borrowed();
-                Ok(Scanned::Working)
+                Ok(Step::Working)
             }
         }
     }
@@ -171,7 +149,7 @@ impl Retrieval {
         reader: &R,
         judge: &mut Box<dyn Judge>,
         steps: &mut Steps<R::Ledger>,
-    ) -> Result<Scanned, NoMemory>
+    ) -> Result<Step<Record>, NoMemory>
         requires control { self.old.control ≡ Control.Building }
         requires strategy { self.old.strategy ≡ Strategy.FastFirst }
         requires fits { RetrievalFits self.old (R.shown reader.now) }
@@ -201,7 +179,7 @@ impl Retrieval {
         &mut self,
         reader: &R,
         steps: &mut Steps<R::Ledger>,
-    ) -> Result<Scanned, NoMemory>
+    ) -> Result<Step<Record>, NoMemory>
         requires front { source self.old ≡ Source.Ahead }
         requires forgets { (is_building self.old.control && is_index_only self.old.strategy) ≡ false }
         requires fits { RetrievalFits self.old (R.shown reader.now) }
@@ -221,11 +199,11 @@ impl Retrieval {
         ensures settled { Settled self.old → Settled self.new }
     {
         match self.scan_front(reader, steps)? {
-            Scanned::Found(record) => Ok(Scanned::Found(record)),
-            Scanned::Working => Ok(Scanned::Working),
-            Scanned::End => {
+            Step::Row(record) => Ok(Step::Row(record)),
+            Step::Working => Ok(Step::Working),
+            Step::End => {
                 self.go(Happening::FrontEnded);
-                Ok(Scanned::End)
+                Ok(Step::End)
             }
         }
     }
@@ -235,7 +213,7 @@ impl Retrieval {
         &mut self,
         reader: &R,
         steps: &mut Steps<R::Ledger>,
-    ) -> Result<Scanned, NoMemory>
+    ) -> Result<Step<Record>, NoMemory>
         requires both { (is_building self.old.control && is_index_only self.old.strategy) ≡ true }
         requires fits { RetrievalFits self.old (R.shown reader.now) }
         ensures steady { Steady self.old self.new }
@@ -250,14 +228,14 @@ impl Retrieval {
         ensures falls { IfOk result (λ s. Falls s steps.old steps.new (effort self.old (R.shown reader.now)) (effort self.new (R.shown reader.now))) }
     {
         match self.scan_front(reader, steps)? {
-            Scanned::Found(record) => {
+            Step::Row(record) => {
                 self.deliver(record.row);
-                Ok(Scanned::Found(record))
+                Ok(Step::Row(record))
             }
-            Scanned::Working => Ok(Scanned::Working),
-            Scanned::End => {
+            Step::Working => Ok(Step::Working),
+            Step::End => {
                 self.go(Happening::FrontEnded);
-                Ok(Scanned::End)
+                Ok(Step::End)
             }
         }
     }
@@ -267,13 +245,13 @@ impl Retrieval {
         reader: &R,
         judge: &mut Box<dyn Judge>,
         steps: &mut Steps<R::Ledger>,
-    ) -> Result<Scanned, NoMemory>
+    ) -> Result<Step<Record>, NoMemory>
         requires fits { RetrievalFits self.old (R.shown reader.now) }
         ensures steady { Steady self.old self.new }
         ensures fits { RetrievalFits self.new (R.shown reader.now) }
         ensures step { IfOk result (DoesStep self.old self.new (R.shown reader.now)) }
         ensures ends { IfOk result (EndsIn self.new) }
-        ensures again { self.old.control ≡ Control.Done → result ≡ Ok Scanned.End }
+        ensures again { self.old.control ≡ Control.Done → result ≡ Ok Step.End }
         ensures err { OnErr result (rest self.new (R.shown reader.now) ≡ rest self.old (R.shown reader.now)) }
         ensures does { (is_background self.old.control ≡ true → under_way self.old.joint ≡ true) → IfOk result (λ s. DoesIts (would judge.old) (state judge.old) (state judge.new) (R.shown reader.now) steps.old steps.new s self.old self.new) }
         ensures quiet { OnErr result (state judge.new ≡ state judge.old) }
@@ -308,7 +286,7 @@ impl Retrieval {
                 Err(NoMemory) => Err(NoMemory),
             },
             Control::FinalTable => self.table_step(reader, steps),
-            Control::Done => Ok(Scanned::End),
+            Control::Done => Ok(Step::End),
         }
     }
 
@@ -322,14 +300,14 @@ impl Retrieval {
         reader: &R,
         judge: &mut Box<dyn Judge>,
         steps: &mut Steps<R::Ledger>,
-    ) -> Result<Fg, NoMemory>
+    ) -> Result<Step<Record>, NoMemory>
         requires fits { RetrievalFits self.old (R.shown reader.now) }
         ensures counts { CountsRise self.old.trace self.new.trace steps.old steps.new }
         ensures query { self.new.query ≡ self.old.query }
         ensures fits { RetrievalFits self.new (R.shown reader.now) }
-        ensures step { IfOk result (GivesStep self.old self.new (R.shown reader.now)) }
-        ensures ends { result ≡ Ok Fg.End → self.new.control ≡ Control.Done }
-        ensures again { self.old.control ≡ Control.Done → result ≡ Ok Fg.End }
+        ensures step { IfOk result (DoesStep self.old self.new (R.shown reader.now)) }
+        ensures ends { result ≡ Ok Step.End → self.new.control ≡ Control.Done }
+        ensures again { self.old.control ≡ Control.Done → result ≡ Ok Step.End }
         ensures err { OnErr result (rest self.new (R.shown reader.now) ≡ rest self.old (R.shown reader.now)) }
         ensures does { Tells self.old → IfOk result (λ fg. StepsAs (would judge.old) (state judge.old) (state judge.new) (R.shown reader.now) steps.old steps.new fg self.old self.new) }
         ensures quiet { OnErr result (state judge.new ≡ state judge.old) }
@@ -341,7 +319,7 @@ impl Retrieval {
         ensures course { OnErr result (SameCourse self.old self.new) }
         ensures tells { Tells self.old → Tells self.new }
         ensures tries { Tries steps.old steps.new (effort self.old (R.shown reader.now)) (effort self.new (R.shown reader.now)) }
-        ensures spends { Awaiting self.old → IfOk result (λ fg. FgSpends fg steps.old steps.new (effort self.old (R.shown reader.now)) (effort self.new (R.shown reader.now))) }
+        ensures spends { Awaiting self.old → IfOk result (λ fg. Spends fg steps.old steps.new (effort self.old (R.shown reader.now)) (effort self.new (R.shown reader.now))) }
         ensures awaiting { Awaiting self.old → Awaiting self.new }
         ensures settled { Settled self.old → Settled self.new }
         ensures unasked { Settled self.old → state judge.new ≡ state judge.old }
@@ -351,9 +329,6 @@ impl Retrieval {
         let before = steps.counts();
         let stepped = self.step(reader, judge, steps);
         self.count(before, steps.counts());
-        match stepped {
-            Ok(scanned) => Ok(answer(scanned)),
-            Err(error) => Err(error),
-        }
+        stepped
     }
 }

@@ -14,8 +14,8 @@ use Rattle.rv_restrict.specs.declared.atom.Atom.{Atom}
 use Rattle.rv_restrict.specs.Truth.{names_only, qualifies, row_has}
 use Rattle.rv_reader.specs.Entries.{run}
 use Rattle.rv_reader.specs.Tables.{row_at}
-use Rattle.rv_scan.specs.declared.skip.Scanned.{Scanned}
-use Rattle.rv_scan.specs.declared.skip.Scanned.TheVariants.{Found, Working, End}
+use Rattle.rv_reader.specs.declared.step.Step.{Step}
+use Rattle.rv_reader.specs.declared.step.Step.TheVariants.{Row, Working, End}
 use Rattle.rv_scan.specs.Due.{Skipped, due, skips, HaveColumns, StepsTo}
 use Rattle.rv_scan.specs.Alongs.{Along, FetchesDue, Fetching, Follows, FindsEntry, FindsGiven, Turned, fetched, fetch_rest, is_given, leaf_work, looked, to_come}
 
@@ -97,9 +97,9 @@ fetched_follows walk passed entries h fits =
     (fits.0 + (passed + 1), sym (drop-append-le (passed + 1) walk.held (to_come walk.ahead entries walk.range) (omega arith)) ∙ ap (drop (passed + 1)) fits.1 ∙ drop-drop (passed + 1) fits.0 (run entries walk.range))
 
 -- a leaf read, or none left
-turned_step : (scanned : Scanned) (only : List (List Atom)) (skip : Skipped) (old new : Fetching) (entries cuts : List IndexEntry) (rows : List Record) → FindsGiven skip old.walk.held None → Turned old new entries cuts scanned
+turned_step : (scanned : Step Record) (only : List (List Atom)) (skip : Skipped) (old new : Fetching) (entries cuts : List IndexEntry) (rows : List Record) → FindsGiven skip old.walk.held None → Turned old new entries cuts scanned
     → StepsTo scanned (fetch_rest old.walk entries rows only skip) (leaf_work old.walk entries cuts) (fetch_rest new.walk entries rows only skip) (leaf_work new.walk entries cuts)
-turned_step (Found r) only skip old new entries cuts rows none turned = elim turned [ ]
+turned_step (Row r) only skip old new entries cuts rows none turned = elim turned [ ]
 turned_step Working only skip old new entries cuts rows none turned =
     let moves = turned.1 in
     let coming = to_come old.walk.ahead entries old.walk.range in
@@ -112,8 +112,8 @@ turned_step End only skip old new entries cuts rows none turned =
     let nothing : fetch_rest old.walk entries rows only skip ≡ [] = skip_front only skip rows old.walk.held (to_come old.walk.ahead entries old.walk.range) none ∙ ap (λ es. due only skip (fetched rows es)) coming in
     rw turned.1 (nothing, nothing, refl)
 
-turned_follows : (scanned : Scanned) (old new : Fetching) (entries cuts : List IndexEntry) → Follows old.walk entries → Turned old new entries cuts scanned → Follows new.walk entries
-turned_follows (Found r) old new entries cuts fits turned = elim turned [ ]
+turned_follows : (scanned : Step Record) (old new : Fetching) (entries cuts : List IndexEntry) → Follows old.walk entries → Turned old new entries cuts scanned → Follows new.walk entries
+turned_follows (Row r) old new entries cuts fits turned = elim turned [ ]
 turned_follows Working old new entries cuts fits turned =
     let moves = turned.1 in
     let coming = to_come old.walk.ahead entries old.walk.range in
@@ -121,28 +121,28 @@ turned_follows Working old new entries cuts fits turned =
     (fits.0 + length old.walk.held, moves.parts ∙ here ∙ ap (λ range. drop (fits.0 + length old.walk.held) (run entries range)) (sym moves.range))
 turned_follows End old new entries cuts fits turned = rw turned.1 fits
 
-pub step_turned : {E : Type 0} (r : Result Scanned E) (only : List (List Atom)) (skip : Skipped) (old new : Fetching) (entries cuts : List IndexEntry) (rows : List Record) → FindsGiven skip old.walk.held None → IfOk r (Turned old new entries cuts)
+pub step_turned : {E : Type 0} (r : Result (Step Record) E) (only : List (List Atom)) (skip : Skipped) (old new : Fetching) (entries cuts : List IndexEntry) (rows : List Record) → FindsGiven skip old.walk.held None → IfOk r (Turned old new entries cuts)
     → IfOk r (λ scanned. StepsTo scanned (fetch_rest old.walk entries rows only skip) (leaf_work old.walk entries cuts) (fetch_rest new.walk entries rows only skip) (leaf_work new.walk entries cuts))
 step_turned (Ok scanned) only skip old new entries cuts rows none turned = turned_step scanned only skip old new entries cuts rows none turned
 step_turned (Err e) only skip old new entries cuts rows none turned = tt
 
-pub follows_turned : {E : Type 0} (r : Result Scanned E) (old new : Fetching) (entries cuts : List IndexEntry) → IfOk r (Turned old new entries cuts) → OnErr r (new ≡ old) → Follows old.walk entries → Follows new.walk entries
+pub follows_turned : {E : Type 0} (r : Result (Step Record) E) (old new : Fetching) (entries cuts : List IndexEntry) → IfOk r (Turned old new entries cuts) → OnErr r (new ≡ old) → Follows old.walk entries → Follows new.walk entries
 follows_turned (Ok scanned) old new entries cuts turned err fits = turned_follows scanned old new entries cuts fits turned
 follows_turned (Err e) old new entries cuts turned err fits = rw err fits
 
-pub step_fetched : {E : Type 0} (r : Result Scanned E) (only : List (List Atom)) (skip : Skipped) (old new : Fetching) (passed : ℕ) (row : RowNo) (d : IndexEntry) (entries cuts : List IndexEntry) (rows : List Record) → FindsEntry skip old.walk.held (Some (passed, row))
+pub step_fetched : {E : Type 0} (r : Result (Step Record) E) (only : List (List Atom)) (skip : Skipped) (old new : Fetching) (passed : ℕ) (row : RowNo) (d : IndexEntry) (entries cuts : List IndexEntry) (rows : List Record) → FindsEntry skip old.walk.held (Some (passed, row))
     → IfOk r (λ scanned. scanned ≡ looked only (row_at rows row.0)) → OnOk r (new ≡ record old { walk = record old.walk { held = drop (passed + 1) old.walk.held } })
     → IfOk r (λ scanned. StepsTo scanned (fetch_rest old.walk entries rows only skip) (leaf_work old.walk entries cuts) (fetch_rest new.walk entries rows only skip) (leaf_work new.walk entries cuts))
 step_fetched (Ok scanned) only skip old new passed row d entries cuts rows found is after = rw (is, after) (fetched_step only skip old.walk passed row d entries cuts rows found)
 step_fetched (Err e) only skip old new passed row d entries cuts rows found is after = tt
 
-pub follows_fetched : {E : Type 0} (r : Result Scanned E) (old new : Fetching) (passed : ℕ) (entries : List IndexEntry) → passed < length old.walk.held → OnOk r (new ≡ record old { walk = record old.walk { held = drop (passed + 1) old.walk.held } }) → OnErr r (new ≡ old) → Follows old.walk entries → Follows new.walk entries
+pub follows_fetched : {E : Type 0} (r : Result (Step Record) E) (old new : Fetching) (passed : ℕ) (entries : List IndexEntry) → passed < length old.walk.held → OnOk r (new ≡ record old { walk = record old.walk { held = drop (passed + 1) old.walk.held } }) → OnErr r (new ≡ old) → Follows old.walk entries → Follows new.walk entries
 follows_fetched (Ok scanned) old new passed entries h after err fits = rw after (fetched_follows old.walk passed entries h fits)
 follows_fetched (Err e) old new passed entries h after err fits = rw err fits
 
 -- Which record a step reads.
 
-pub fetches_row : {E : Type 0} (r : Result Scanned E) (skip : Skipped) (only : List (List Atom)) (rows : List Record) (held : List IndexEntry) (passed : ℕ) (row : RowNo) (d : IndexEntry) (old new : Counts) → FindsEntry skip held (Some (passed, row)) → new ≡ record_read old → IfOk r (λ scanned. scanned ≡ looked only (row_at rows row.0)) → IfOk r (λ scanned. FetchesDue skip only rows scanned old new)
+pub fetches_row : {E : Type 0} (r : Result (Step Record) E) (skip : Skipped) (only : List (List Atom)) (rows : List Record) (held : List IndexEntry) (passed : ℕ) (row : RowNo) (d : IndexEntry) (old new : Counts) → FindsEntry skip held (Some (passed, row)) → new ≡ record_read old → IfOk r (λ scanned. scanned ≡ looked only (row_at rows row.0)) → IfOk r (λ scanned. FetchesDue skip only rows scanned old new)
 fetches_row (Ok scanned) skip only rows held passed row d old new found read looks = inl (record {
   row = row.0;
   unskipped = let at = found.1 d in not-true (skips skip row.0) (ap (λ (n : RowNo). not (skips skip n.0)) at.1 ∙ at.0);
@@ -151,6 +151,6 @@ fetches_row (Ok scanned) skip only rows held passed row d old new found read loo
 })
 fetches_row (Err e) skip only rows held passed row d old new found read looks = tt
 
-pub fetches_none : {E : Type 0} (r : Result Scanned E) (skip : Skipped) (only : List (List Atom)) (rows : List Record) (old new : Counts) → OnOk r (new.records ≡ old.records) → IfOk r (λ scanned. FetchesDue skip only rows scanned old new)
+pub fetches_none : {E : Type 0} (r : Result (Step Record) E) (skip : Skipped) (only : List (List Atom)) (rows : List Record) (old new : Counts) → OnOk r (new.records ≡ old.records) → IfOk r (λ scanned. FetchesDue skip only rows scanned old new)
 fetches_none (Ok scanned) skip only rows old new same = inr same
 fetches_none (Err e) skip only rows old new same = tt

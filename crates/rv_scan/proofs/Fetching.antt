@@ -5,8 +5,9 @@ use Rattle.rv_value.specs.declared.record.RowNo.{RowNo}
 use Rattle.rv_value.specs.declared.record.IndexEntry.{IndexEntry}
 use Rattle.rv_judge.specs.declared.counting.Counts.{Counts}
 use Rattle.rv_judge.specs.Counting.{record_read}
-use Rattle.rv_scan.specs.declared.skip.Scanned.{Scanned}
-use Rattle.rv_scan.specs.declared.skip.Scanned.TheVariants.{Found, Working, End}
+use Rattle.rv_reader.specs.declared.step.Step.{Step}
+use Rattle.rv_value.specs.declared.record.Record.{Record}
+use Rattle.rv_reader.specs.declared.step.Step.TheVariants.{Row, Working, End}
 use Rattle.rv_scan.specs.Due.{Skipped}
 use Rattle.rv_scan.specs.Alongs.{Fetching, FindsEntry, Turned, is_given, to_come, to_fetch}
 
@@ -26,7 +27,7 @@ rest_fewer p (x ∷ xs) ys =
     let more = rest_fewer p xs ys in
     elim (p x) as (λ b. length (filter p ys) ≤ length (cond b (x ∷ filter p (xs ++ ys)) (filter p (xs ++ ys)))) [ true ↦ omega arith | false ↦ more ]
 
-pub fetches_fetched : {E : Type 0} (r : Result Scanned E) (skip : Skipped) (old new : Fetching) (passed : ℕ) (row : RowNo) (d : IndexEntry) (entries : List IndexEntry) (before after : Counts) → FindsEntry skip old.walk.held (Some (passed, row)) → after ≡ record_read before → OnOk r (new ≡ record old { walk = record old.walk { held = drop (passed + 1) old.walk.held } }) → IfOk r (λ scanned. after.records + to_fetch new.walk entries skip ≤ before.records + to_fetch old.walk entries skip)
+pub fetches_fetched : {E : Type 0} (r : Result (Step Record) E) (skip : Skipped) (old new : Fetching) (passed : ℕ) (row : RowNo) (d : IndexEntry) (entries : List IndexEntry) (before after : Counts) → FindsEntry skip old.walk.held (Some (passed, row)) → after ≡ record_read before → OnOk r (new ≡ record old { walk = record old.walk { held = drop (passed + 1) old.walk.held } }) → IfOk r (λ scanned. after.records + to_fetch new.walk entries skip ≤ before.records + to_fetch old.walk entries skip)
 fetches_fetched (Ok scanned) skip old new passed row d entries before after found read is =
     let fewer = passed_fewer (is_given skip) passed old.walk.held (to_come old.walk.ahead entries old.walk.range) d found.0.0 (found.1 d).0 in
     let same = ap (λ (f : Fetching). to_fetch f.walk entries skip) is in
@@ -34,8 +35,8 @@ fetches_fetched (Ok scanned) skip old new passed row d entries before after foun
     omega arith
 fetches_fetched (Err e) skip old new passed row d entries before after found read is = tt
 
-turned_fetches : (scanned : Scanned) (skip : Skipped) (old new : Fetching) (entries cuts : List IndexEntry) (before after : Counts) → Turned old new entries cuts scanned → after.records ≡ before.records → after.records + to_fetch new.walk entries skip ≤ before.records + to_fetch old.walk entries skip
-turned_fetches (Found r) skip old new entries cuts before after turned read = elim turned [ ]
+turned_fetches : (scanned : Step Record) (skip : Skipped) (old new : Fetching) (entries cuts : List IndexEntry) (before after : Counts) → Turned old new entries cuts scanned → after.records ≡ before.records → after.records + to_fetch new.walk entries skip ≤ before.records + to_fetch old.walk entries skip
+turned_fetches (Row r) skip old new entries cuts before after turned read = elim turned [ ]
 turned_fetches Working skip old new entries cuts before after turned read =
     let same = ap (λ (es : List IndexEntry). length (filter (is_given skip) es)) turned.1.parts in
     let fewer = rest_fewer (is_given skip) old.walk.held (to_come old.walk.ahead entries old.walk.range) in
@@ -44,6 +45,6 @@ turned_fetches End skip old new entries cuts before after turned read =
     let same = ap (λ (f : Fetching). to_fetch f.walk entries skip) turned.1 in
     omega arith
 
-pub fetches_turned : {E : Type 0} (r : Result Scanned E) (skip : Skipped) (old new : Fetching) (entries cuts : List IndexEntry) (before after : Counts) → IfOk r (Turned old new entries cuts) → after.records ≡ before.records → IfOk r (λ scanned. after.records + to_fetch new.walk entries skip ≤ before.records + to_fetch old.walk entries skip)
+pub fetches_turned : {E : Type 0} (r : Result (Step Record) E) (skip : Skipped) (old new : Fetching) (entries cuts : List IndexEntry) (before after : Counts) → IfOk r (Turned old new entries cuts) → after.records ≡ before.records → IfOk r (λ scanned. after.records + to_fetch new.walk entries skip ≤ before.records + to_fetch old.walk entries skip)
 fetches_turned (Ok scanned) skip old new entries cuts before after turned read = turned_fetches scanned skip old new entries cuts before after turned read
 fetches_turned (Err e) skip old new entries cuts before after turned read = tt

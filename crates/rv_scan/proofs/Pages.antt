@@ -13,8 +13,8 @@ use Rattle.rv_rows.specs.Rows.{Ascend, comes_below}
 use Rattle.rv_restrict.specs.declared.atom.Atom.{Atom}
 use Rattle.rv_reader.specs.Tables.{page_of, IsTable}
 use Rattle.rv_reader.proofs.Filters.{rising_cut}
-use Rattle.rv_scan.specs.declared.skip.Scanned.{Scanned}
-use Rattle.rv_scan.specs.declared.skip.Scanned.TheVariants.{Found, Working, End}
+use Rattle.rv_reader.specs.declared.step.Step.{Step}
+use Rattle.rv_reader.specs.declared.step.Step.TheVariants.{Row, Working, End}
 use Rattle.rv_scan.specs.Due.{Skipped, is_due, due, FindsDue, HaveColumns, StepsTo}
 use Rattle.rv_scan.specs.Places.{PageTurns, Place, Turns, rows_from, Fits, rest, work}
 
@@ -66,7 +66,7 @@ due_both only skip xs ys = filter-append (is_due only skip) xs ys
 
 -- the first due row of the page that is held
 pub given_step : (only : List (List Atom)) (skip : Skipped) (place : Place) (at : ℕ) (rows : List Record) (pages : ℕ) (r : Record) → FindsDue only skip place.held (Some at) → ((d : Record) → r ≡ slice_index_or place.held at d)
-    → StepsTo (Found r) (rest place rows only skip) (work place rows pages) (rest (record place { held = drop (at + 1) place.held }) rows only skip) (work (record place { held = drop (at + 1) place.held }) rows pages)
+    → StepsTo (Row r) (rest place rows only skip) (work place rows pages) (rest (record place { held = drop (at + 1) place.held }) rows only skip) (work (record place { held = drop (at + 1) place.held }) rows pages)
 given_step only skip place at rows pages r found is =
     let behind = rows_from rows place.next in
     let here : due only skip place.held ≡ r ∷ due only skip (drop (at + 1) place.held) = found.1 r ∙ ap (λ (x : Record). x ∷ due only skip (drop (at + 1) place.held)) (sym (is r)) in
@@ -76,9 +76,9 @@ given_step only skip place at rows pages r found is =
     (due_both only skip place.held behind ∙ ap (λ rs. rs ++ due only skip behind) here ∙ ap (λ rs. r ∷ rs) (sym (due_both only skip (drop (at + 1) place.held) behind)), omega arith)
 
 -- a page read, or none left
-pub turned_step : (scanned : Scanned) (only : List (List Atom)) (skip : Skipped) (old new : Place) (rows : List Record) (pages : ℕ) → IsTable rows pages → due only skip old.held ≡ [] → Turns old new rows pages scanned
+pub turned_step : (scanned : Step Record) (only : List (List Atom)) (skip : Skipped) (old new : Place) (rows : List Record) (pages : ℕ) → IsTable rows pages → due only skip old.held ≡ [] → Turns old new rows pages scanned
     → StepsTo scanned (rest old rows only skip) (work old rows pages) (rest new rows only skip) (work new rows pages)
-turned_step (Found r) only skip old new rows pages table none turns = elim turns [ ]
+turned_step (Row r) only skip old new rows pages table none turns = elim turns [ ]
 turned_step Working only skip old new rows pages table none turns =
     let behind = rows_from rows old.next in
     let page = turned_unseen old rows table.ascend in
@@ -92,25 +92,25 @@ turned_step End only skip old new rows pages table none turns =
     let nothing : rest old rows only skip ≡ [] = due_both only skip old.held (rows_from rows old.next) ∙ ap (λ rs. rs ++ due only skip (rows_from rows old.next)) none ∙ ap (due only skip) behind in
     rw turns.1 (nothing, nothing, refl)
 
-turned_keeps : (scanned : Scanned) (old new : Place) (rows : List Record) (pages : ℕ) → IsTable rows pages → Fits old rows → Turns old new rows pages scanned → Fits new rows
-turned_keeps (Found r) old new rows pages table fits turns = elim turns [ ]
+turned_keeps : (scanned : Step Record) (old new : Place) (rows : List Record) (pages : ℕ) → IsTable rows pages → Fits old rows → Turns old new rows pages scanned → Fits new rows
+turned_keeps (Row r) old new rows pages table fits turns = elim turns [ ]
 turned_keeps Working old new rows pages table fits turns = rw turns.1 (turned_fits old rows table.ascend fits)
 turned_keeps End old new rows pages table fits turns = rw turns.1 fits
 
-turned_page : (scanned : Scanned) (old new : Place) (rows : List Record) (pages : ℕ) → Turns old new rows pages scanned → PageTurns scanned old new pages
-turned_page (Found r) old new rows pages turns = elim turns [ ]
+turned_page : (scanned : Step Record) (old new : Place) (rows : List Record) (pages : ℕ) → Turns old new rows pages scanned → PageTurns scanned old new pages
+turned_page (Row r) old new rows pages turns = elim turns [ ]
 turned_page Working old new rows pages turns = (turns.0, ap (λ (p : Place). p.next) turns.1)
 turned_page End old new rows pages turns = ap (λ (p : Place). p.next) turns.1
 
-pub pages_after : {E : Type 0} (r : Result Scanned E) (old new : Place) (rows : List Record) (pages : ℕ) → IfOk r (Turns old new rows pages) → IfOk r (λ scanned. PageTurns scanned old new pages)
+pub pages_after : {E : Type 0} (r : Result (Step Record) E) (old new : Place) (rows : List Record) (pages : ℕ) → IfOk r (Turns old new rows pages) → IfOk r (λ scanned. PageTurns scanned old new pages)
 pages_after (Ok scanned) old new rows pages turns = turned_page scanned old new rows pages turns
 pages_after (Err e) old new rows pages turns = tt
 
-pub fits_after : {E : Type 0} (r : Result Scanned E) (old new : Place) (rows : List Record) (pages : ℕ) → IsTable rows pages → Fits old rows → IfOk r (Turns old new rows pages) → OnErr r (new ≡ old) → Fits new rows
+pub fits_after : {E : Type 0} (r : Result (Step Record) E) (old new : Place) (rows : List Record) (pages : ℕ) → IsTable rows pages → Fits old rows → IfOk r (Turns old new rows pages) → OnErr r (new ≡ old) → Fits new rows
 fits_after (Ok scanned) old new rows pages table fits turns err = turned_keeps scanned old new rows pages table fits turns
 fits_after (Err e) old new rows pages table fits turns err = rw err fits
 
-pub step_after : {E : Type 0} (r : Result Scanned E) (only : List (List Atom)) (skip : Skipped) (old new : Place) (rows : List Record) (pages : ℕ) → IsTable rows pages → due only skip old.held ≡ [] → IfOk r (Turns old new rows pages)
+pub step_after : {E : Type 0} (r : Result (Step Record) E) (only : List (List Atom)) (skip : Skipped) (old new : Place) (rows : List Record) (pages : ℕ) → IsTable rows pages → due only skip old.held ≡ [] → IfOk r (Turns old new rows pages)
     → IfOk r (λ scanned. StepsTo scanned (rest old rows only skip) (work old rows pages) (rest new rows only skip) (work new rows pages))
 step_after (Ok scanned) only skip old new rows pages table none turns = turned_step scanned only skip old new rows pages table none turns
 step_after (Err e) only skip old new rows pages table none turns = tt

@@ -20,8 +20,8 @@ use Rattle.rv_restrict.specs.Parts.{stands_among, value_in}
 use Rattle.rv_restrict.specs.Truth.{names_only, row_has, is_home, is_true, qualifies, row_reads}
 use Rattle.rv_restrict.proofs.Names.{names_weaker, truth_same}
 use Rattle.rv_reader.specs.Entries.{run, column_of, entry_of}
-use Rattle.rv_scan.specs.declared.skip.Scanned.{Scanned}
-use Rattle.rv_scan.specs.declared.skip.Scanned.TheVariants.{Found, Working, End}
+use Rattle.rv_reader.specs.declared.step.Step.{Step}
+use Rattle.rv_reader.specs.declared.step.Step.TheVariants.{Row, Working, End}
 use Rattle.rv_scan.specs.Due.{Skipped, is_due, due, StepsTo}
 use Rattle.rv_scan.specs.Alongs.{Along, FetchesDue, Follows, leaf_work, to_come}
 use Rattle.rv_scan.specs.Told.{FindsTold, Goes, KeyReads, NamesThese, Tells, told, told_rest, told_values, width}
@@ -63,7 +63,7 @@ due_told columns only skip xs ys = ap (due only skip) (map-append (told columns)
 
 -- a record given
 pub told_step : (columns : List ℕ) (only : List (List Atom)) (skip : Skipped) (walk : Along) (passed : ℕ) (r : Record) (entries cuts : List IndexEntry) → FindsTold columns only skip walk.held (Some (passed, r))
-    → StepsTo (Found r) (told_rest walk entries columns only skip) (leaf_work walk entries cuts) (told_rest (record walk { held = drop (passed + 1) walk.held }) entries columns only skip) (leaf_work (record walk { held = drop (passed + 1) walk.held }) entries cuts)
+    → StepsTo (Row r) (told_rest walk entries columns only skip) (leaf_work walk entries cuts) (told_rest (record walk { held = drop (passed + 1) walk.held }) entries columns only skip) (leaf_work (record walk { held = drop (passed + 1) walk.held }) entries cuts)
 told_step columns only skip walk passed r entries cuts found =
     let coming = to_come walk.ahead entries walk.range in
     let less = length_drop passed walk.held found.0 in
@@ -72,9 +72,9 @@ told_step columns only skip walk passed r entries cuts found =
     (due_told columns only skip walk.held coming ∙ ap (λ rs. rs ++ due only skip (map (told columns) coming)) found.1 ∙ ap (λ rs. r ∷ rs) (sym (due_told columns only skip (drop (passed + 1) walk.held) coming)), omega arith)
 
 -- a leaf read, or none left
-gone_step : (scanned : Scanned) (columns : List ℕ) (only : List (List Atom)) (skip : Skipped) (old new : Along) (entries cuts : List IndexEntry) → FindsTold columns only skip old.held None → Goes old new entries cuts scanned
+gone_step : (scanned : Step Record) (columns : List ℕ) (only : List (List Atom)) (skip : Skipped) (old new : Along) (entries cuts : List IndexEntry) → FindsTold columns only skip old.held None → Goes old new entries cuts scanned
     → StepsTo scanned (told_rest old entries columns only skip) (leaf_work old entries cuts) (told_rest new entries columns only skip) (leaf_work new entries cuts)
-gone_step (Found r) columns only skip old new entries cuts none goes = elim goes [ ]
+gone_step (Row r) columns only skip old new entries cuts none goes = elim goes [ ]
 gone_step Working columns only skip old new entries cuts none goes =
     let coming = to_come old.ahead entries old.range in
     let before = length-append old.held coming in
@@ -86,20 +86,20 @@ gone_step End columns only skip old new entries cuts none goes =
     let nothing : told_rest old entries columns only skip ≡ [] = due_told columns only skip old.held (to_come old.ahead entries old.range) ∙ ap (λ rs. rs ++ due only skip (map (told columns) (to_come old.ahead entries old.range))) none ∙ ap (λ es. due only skip (map (told columns) es)) coming in
     rw goes.1 (nothing, nothing, refl)
 
-gone_follows : (scanned : Scanned) (old new : Along) (entries cuts : List IndexEntry) → Follows old entries → Goes old new entries cuts scanned → Follows new entries
-gone_follows (Found r) old new entries cuts fits goes = elim goes [ ]
+gone_follows : (scanned : Step Record) (old new : Along) (entries cuts : List IndexEntry) → Follows old entries → Goes old new entries cuts scanned → Follows new entries
+gone_follows (Row r) old new entries cuts fits goes = elim goes [ ]
 gone_follows Working old new entries cuts fits goes =
     let coming = to_come old.ahead entries old.range in
     let here : coming ≡ drop (fits.0 + length old.held) (run entries old.range) = sym (drop-append_seam old.held coming) ∙ ap (drop (length old.held)) fits.1 ∙ drop-drop (length old.held) fits.0 (run entries old.range) in
     (fits.0 + length old.held, goes.parts ∙ here ∙ ap (λ range. drop (fits.0 + length old.held) (run entries range)) (sym goes.range))
 gone_follows End old new entries cuts fits goes = rw goes.1 fits
 
-pub step_gone : {E : Type 0} (r : Result Scanned E) (columns : List ℕ) (only : List (List Atom)) (skip : Skipped) (old new : Along) (entries cuts : List IndexEntry) → FindsTold columns only skip old.held None → IfOk r (Goes old new entries cuts)
+pub step_gone : {E : Type 0} (r : Result (Step Record) E) (columns : List ℕ) (only : List (List Atom)) (skip : Skipped) (old new : Along) (entries cuts : List IndexEntry) → FindsTold columns only skip old.held None → IfOk r (Goes old new entries cuts)
     → IfOk r (λ scanned. StepsTo scanned (told_rest old entries columns only skip) (leaf_work old entries cuts) (told_rest new entries columns only skip) (leaf_work new entries cuts))
 step_gone (Ok scanned) columns only skip old new entries cuts none goes = gone_step scanned columns only skip old new entries cuts none goes
 step_gone (Err e) columns only skip old new entries cuts none goes = tt
 
-pub follows_gone : {E : Type 0} (r : Result Scanned E) (old new : Along) (entries cuts : List IndexEntry) → IfOk r (Goes old new entries cuts) → OnErr r (new ≡ old) → Follows old entries → Follows new entries
+pub follows_gone : {E : Type 0} (r : Result (Step Record) E) (old new : Along) (entries cuts : List IndexEntry) → IfOk r (Goes old new entries cuts) → OnErr r (new ≡ old) → Follows old entries → Follows new entries
 follows_gone (Ok scanned) old new entries cuts goes err fits = gone_follows scanned old new entries cuts fits goes
 follows_gone (Err e) old new entries cuts goes err fits = rw err fits
 
@@ -125,8 +125,8 @@ pub told_truth : (columns : List ℕ) (only : List (List Atom)) (row : Record) �
 told_truth columns only row names = ap is_true (truth_same (row_reads (told columns (entry_of columns row)).values) (row_reads row.values) (passes_home (stands_among columns)) (λ c h. told_reads columns row c.column (second_so (is_home c) (stands_among columns c.column) h)) only names)
 
 -- an index alone fetches no record
-pub told_fetches : {E : Type 0} (r : Result Scanned E) (skip : Skipped) (only : List (List Atom)) (rows : List Record) (old new : Counts) → IfOk r (λ scanned. KeyReads scanned old new) → IfOk r (λ scanned. FetchesDue skip only rows scanned old new)
-told_fetches (Ok (Found r)) skip only rows old new reads = inr (ap (λ (c : Counts). c.records) reads)
+pub told_fetches : {E : Type 0} (r : Result (Step Record) E) (skip : Skipped) (only : List (List Atom)) (rows : List Record) (old new : Counts) → IfOk r (λ scanned. KeyReads scanned old new) → IfOk r (λ scanned. FetchesDue skip only rows scanned old new)
+told_fetches (Ok (Row r)) skip only rows old new reads = inr (ap (λ (c : Counts). c.records) reads)
 told_fetches (Ok Working) skip only rows old new reads = inr (ap (λ (c : Counts). c.records) reads)
 told_fetches (Ok End) skip only rows old new reads = inr (ap (λ (c : Counts). c.records) reads)
 told_fetches (Err e) skip only rows old new reads = tt

@@ -12,8 +12,8 @@ use Rattle.rv_reader.specs.Leaves.{run_from, leaves_from}
 use Rattle.rv_reader.specs.Tables.{row_at}
 use Rattle.rv_restrict.specs.Truth.{qualifies}
 use Rattle.rv_value.specs.declared.record.RowNo.{RowNo}
-use Rattle.rv_scan.specs.declared.skip.Scanned.{Scanned}
-use Rattle.rv_scan.specs.declared.skip.Scanned.TheVariants.{Found, Working, End}
+use Rattle.rv_reader.specs.declared.step.Step.{Step}
+use Rattle.rv_reader.specs.declared.step.Step.TheVariants.{Row, Working, End}
 use Rattle.rv_scan.specs.declared.along.Ahead.{Ahead}
 use Rattle.rv_scan.specs.declared.along.Ahead.TheVariants.{First, From, Nothing}
 use Rattle.rv_scan.specs.Due.{Skipped, due, skips}
@@ -100,9 +100,9 @@ pub record SamePlace (old new : Fetching) : Type 0 where
   pub range : new.walk.range ≡ old.walk.range
 
 -- a record that was fetched is given where it qualifies
-abbrev pub looked : List (List Atom) → Option Record → Scanned
+abbrev pub looked : List (List Atom) → Option Record → Step Record
 looked only None = Working
-looked only (Some r) = if qualifies only r.values then Found r else Working
+looked only (Some r) = if qualifies only r.values then Row r else Working
 
 -- the first entry whose row is not skipped: how many stand before it, and its row
 abbrev pub FindsEntry : Skipped → List IndexEntry → Option (ℕ × RowNo) → Type 0
@@ -113,8 +113,8 @@ FindsEntry skip entries (Some found) =
     × (found.1 ≡ (slice_index_or entries found.0 d).row))
 
 -- the next leaf is read, or there is none
-abbrev pub Turned : Fetching → Fetching → List IndexEntry → List IndexEntry → Scanned → Type 0
-Turned old new entries cuts (Found r) = ⊥
+abbrev pub Turned : Fetching → Fetching → List IndexEntry → List IndexEntry → Step Record → Type 0
+Turned old new entries cuts (Row r) = ⊥
 Turned old new entries cuts Working = (new.table ≡ old.table) × Moves old.walk new.walk entries cuts
 Turned old new entries cuts End = (old.walk.ahead ≡ Nothing) × (new ≡ old)
 
@@ -123,13 +123,13 @@ abbrev pub TriedOne : Counts → Counts → Type 0
 TriedOne old new = (new ≡ record_read old) ⊎ (new ≡ leaf_read old)
 
 -- the reads of a step: a record where it gives a row, a record or a leaf where it works on, none where it ends
-abbrev pub FetchReads : Scanned → Counts → Counts → Type 0
-FetchReads (Found r) old new = new ≡ record_read old
+abbrev pub FetchReads : Step Record → Counts → Counts → Type 0
+FetchReads (Row r) old new = new ≡ record_read old
 FetchReads Working old new = TriedOne old new
 FetchReads End old new = new ≡ old
 
 -- the record of a row that is not skipped was read, and it is the answer where it qualifies
-pub record FetchesRow (skip : Skipped) (only : List (List Atom)) (rows : List Record) (scanned : Scanned)
+pub record FetchesRow (skip : Skipped) (only : List (List Atom)) (rows : List Record) (scanned : Step Record)
     (old new : Counts) : Type 0 where
   pub row : ℕ
   pub unskipped : skips skip row ≡ false
@@ -137,7 +137,7 @@ pub record FetchesRow (skip : Skipped) (only : List (List Atom)) (rows : List Re
   pub looks : scanned ≡ looked only (row_at rows row)
 
 -- no other record is read
-abbrev pub FetchesDue : Skipped → List (List Atom) → List Record → Scanned → Counts → Counts → Type 0
+abbrev pub FetchesDue : Skipped → List (List Atom) → List Record → Step Record → Counts → Counts → Type 0
 FetchesDue skip only rows scanned old new = FetchesRow skip only rows scanned old new ⊎ (new.records ≡ old.records)
 
 -- how many records a scan with fetches may still fetch: one for each entry that it did not look at and whose row is not

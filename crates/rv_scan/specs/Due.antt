@@ -9,8 +9,8 @@ use Rattle.rv_keylist.specs.Keys.{has_key}
 use Rattle.rv_keylist.specs.Listed.{Listed}
 use Rattle.rv_keylist.specs.Marks.{may_key}
 use Rattle.rv_scan.specs.declared.skip.Skip.{Skip}
-use Rattle.rv_scan.specs.declared.skip.Scanned.{Scanned}
-use Rattle.rv_scan.specs.declared.skip.Scanned.TheVariants.{Found, Working, End}
+use Rattle.rv_reader.specs.declared.step.Step.{Step}
+use Rattle.rv_reader.specs.declared.step.Step.TheVariants.{Row, Working, End}
 
 -- rows delivered, and a list of the rows that alone may still be wanted
 pub record Skipped : Type 0 where
@@ -55,7 +55,7 @@ FindsDue only skip records (Some at) =
 
 -- What a step may answer, from one rest and work left to the next: it gives the first record of the rest, or leaves the
 -- rest and lowers the work left, or the rest is empty.
-abbrev pub StepsTo : Scanned → List Record → ℕ → List Record → ℕ → Type 0
-StepsTo (Found r) old work new less = (old ≡ r ∷ new) × (less < work)
+abbrev pub StepsTo : Step Record → List Record → ℕ → List Record → ℕ → Type 0
+StepsTo (Row r) old work new less = (old ≡ r ∷ new) × (less < work)
 StepsTo Working old work new less = (new ≡ old) × (less < work)
 StepsTo End old work new less = (old ≡ []) × (new ≡ []) × (less ≡ work)

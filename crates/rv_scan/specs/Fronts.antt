@@ -8,7 +8,7 @@ use Rattle.rv_scan.specs.Alongs.{Along, FetchReads, Fetching, fetch_rest, to_fet
 use Rattle.rv_scan.specs.Due.{HaveColumns, Skipped}
 use Rattle.rv_scan.specs.Told.{KeyReads, NamesThese, told_rest}
 use Rattle.rv_scan.specs.Reads.{OneAtMost}
-use Rattle.rv_scan.specs.declared.skip.Scanned.{Scanned}
+use Rattle.rv_reader.specs.declared.step.Step.{Step}
 use Rattle.rv_judge.specs.declared.counting.Counts.{Counts}
 use Rattle.rv_judge.specs.Counting.{leaf_read, record_read}
 
@@ -57,6 +57,6 @@ abbrev pub FrontMayRead : Bool → Counts → Counts → Type 0
 FrontMayRead true c d = OneAtMost leaf_read c d
 FrontMayRead false c d = OneAtMost leaf_read c d ⊎ OneAtMost record_read c d
 
-abbrev pub FrontReads : Bool → Scanned → Counts → Counts → Type 0
+abbrev pub FrontReads : Bool → Step Record → Counts → Counts → Type 0
 FrontReads true s c d = KeyReads s c d
 FrontReads false s c d = FetchReads s c d

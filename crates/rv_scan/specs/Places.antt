@@ -5,8 +5,8 @@ use Rattle.rv_judge.specs.declared.counting.Counts.{Counts}
 use Rattle.rv_judge.specs.Counting.{page_read}
 use Rattle.rv_restrict.specs.declared.atom.Atom.{Atom}
 use Rattle.rv_reader.specs.Tables.{page_of}
-use Rattle.rv_scan.specs.declared.skip.Scanned.{Scanned}
-use Rattle.rv_scan.specs.declared.skip.Scanned.TheVariants.{Found, Working, End}
+use Rattle.rv_reader.specs.declared.step.Step.{Step}
+use Rattle.rv_reader.specs.declared.step.Step.TheVariants.{Row, Working, End}
 use Rattle.rv_scan.specs.Due.{Skipped, due}
 
 -- the table and the snapshot, the next page, and what is left of the page before it
@@ -37,20 +37,20 @@ abbrev pub work : Place → List Record → ℕ → ℕ
 work place rows pages = length (unseen place rows) + (pages - place.next)
 
 -- the reads of a step: a page where it works on, none where it gives a row or ends
-abbrev pub PageReads : Scanned → Counts → Counts → Type 0
-PageReads (Found r) old new = new ≡ old
+abbrev pub PageReads : Step Record → Counts → Counts → Type 0
+PageReads (Row r) old new = new ≡ old
 PageReads Working old new = new ≡ page_read old
 PageReads End old new = new ≡ old
 
 -- what a step does to the next page: a page that is read was there, and is behind it
-abbrev pub PageTurns : Scanned → Place → Place → ℕ → Type 0
-PageTurns (Found r) old new pages = new.next ≡ old.next
+abbrev pub PageTurns : Step Record → Place → Place → ℕ → Type 0
+PageTurns (Row r) old new pages = new.next ≡ old.next
 PageTurns Working old new pages = (old.next < pages) × (new.next ≡ old.next + 1)
 PageTurns End old new pages = new.next ≡ old.next
 
 -- the next page is read, or there is none
-abbrev pub Turns : Place → Place → List Record → ℕ → Scanned → Type 0
-Turns old new rows pages (Found r) = ⊥
+abbrev pub Turns : Place → Place → List Record → ℕ → Step Record → Type 0
+Turns old new rows pages (Row r) = ⊥
 Turns old new rows pages Working =
     (old.next < pages) × (new ≡ record old { held = page_of rows old.next; next = old.next + 1 })
 Turns old new rows pages End = (pages ≤ old.next) × (new ≡ old)

@@ -10,8 +10,8 @@ use Rattle.rv_restrict.specs.declared.atom.Atom.{Atom}
 use Rattle.rv_restrict.specs.Bind.{passes_home}
 use Rattle.rv_restrict.specs.Parts.{stands_among, value_in}
 use Rattle.rv_restrict.specs.Truth.{names_only}
-use Rattle.rv_scan.specs.declared.skip.Scanned.{Scanned}
-use Rattle.rv_scan.specs.declared.skip.Scanned.TheVariants.{Found, Working, End}
+use Rattle.rv_reader.specs.declared.step.Step.{Step}
+use Rattle.rv_reader.specs.declared.step.Step.TheVariants.{Row, Working, End}
 use Rattle.rv_scan.specs.declared.along.Ahead.TheVariants.{Nothing}
 use Rattle.rv_scan.specs.Alongs.{Along, Moves, left}
 use Rattle.rv_scan.specs.Due.{Skipped, due, is_due}
@@ -56,14 +56,14 @@ pub record SameWalk (old new : Along) : Type 0 where
   pub range : new.range ≡ old.range
 
 -- the next leaf is read, or there is none
-abbrev pub Goes : Along → Along → List IndexEntry → List IndexEntry → Scanned → Type 0
-Goes old new entries cuts (Found r) = ⊥
+abbrev pub Goes : Along → Along → List IndexEntry → List IndexEntry → Step Record → Type 0
+Goes old new entries cuts (Row r) = ⊥
 Goes old new entries cuts Working = Moves old new entries cuts
 Goes old new entries cuts End = (old.ahead ≡ Nothing) × (new ≡ old)
 
 -- the reads of a step: a leaf where it works on, none where it gives a row or ends
-abbrev pub KeyReads : Scanned → Counts → Counts → Type 0
-KeyReads (Found r) old new = new ≡ old
+abbrev pub KeyReads : Step Record → Counts → Counts → Type 0
+KeyReads (Row r) old new = new ≡ old
 KeyReads Working old new = new ≡ leaf_read old
 KeyReads End old new = new ≡ old
 

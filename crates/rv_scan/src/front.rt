@@ -6,11 +6,11 @@ ghost use Rattle.rv_scan.specs.Reads.{ReadsNone};
 ghost use Rattle.rv_judge.specs.Counting.{reads};
 
 use crate::fscan::Fscan;
-use crate::skip::{Scanned, Skip};
+use crate::skip::Skip;
 use rv_judge::Steps;
-use rv_reader::Reader;
+use rv_reader::{Reader, Step};
 use rv_restrict::Restriction;
-use rv_value::{Items, NoMemory};
+use rv_value::{Items, NoMemory, Record};
 use std::marker::Model;
 
 /// A foreground's scan of an index: by the index alone where it has every column needed, else with fetches. It has one
@@ -50,7 +50,7 @@ impl Front {
         only: &Restriction,
         skip: &Skip<'_>,
         steps: &mut Steps<R::Ledger>,
-    ) -> Result<Scanned, NoMemory>
+    ) -> Result<Step<Record>, NoMemory>
         requires can { CanFront self.old only.now self.old.fetching.table (R.shown reader.now) (walk_of self.old).snap }
         requires ready { IsReady (skipped skip.now) }
         ensures same { SameFront self.old self.new }

@@ -13,10 +13,10 @@ ghost use Rattle.rv_scan.specs.Told.{KeyReads, NamesThese, SameWalk, TriedLeaf, 
 ghost use Rattle.rv_scan.specs.declared.along.Ahead.TheVariants.{First};
 
 use crate::along::{Walk, next_given};
-use crate::skip::{Scanned, Skip};
+use crate::skip::Skip;
 use crate::sscan::tell_along;
 use rv_judge::Steps;
-use rv_reader::Reader;
+use rv_reader::{Reader, Step};
 use rv_restrict::{Restriction, Tri};
 use rv_value::{NoMemory, Range, Record, RowNo};
 use std::alloc::Global;
@@ -40,17 +40,18 @@ impl Model for Fscan {
     ghost view = { λ s. record { table = s.table; walk = s.walk } };
 }
 
-fn look(found: Option<Record>, only: &Restriction) -> Scanned
+/// What the record that was found for a row comes to: it is given where it qualifies.
+pub fn look(found: Option<Record>, only: &Restriction) -> Step<Record>
     requires { IfSome found (λ r. names_only (row_has r.values) only.now ≡ true) }
     ensures { result ≡ looked only.now found }
 {
     match found {
-        None => Scanned::Working,
+        None => Step::Working,
         Some(found) => {
             if only.truth(&found.values) == Tri::True {
-                Scanned::Found(found)
+                Step::Row(found)
             } else {
-                Scanned::Working
+                Step::Working
             }
         }
     }
@@ -78,7 +79,7 @@ impl Fscan {
         row: RowNo,
         only: &Restriction,
         steps: &mut Steps<R::Ledger>,
-    ) -> Result<Scanned, NoMemory>
+    ) -> Result<Step<Record>, NoMemory>
         requires can { CanRead (R.shown reader.now) self.old.table self.old.walk.snap }
         requires columns { HaveColumns only.now ((R.shown reader.now).rows self.old.table self.old.walk.snap) }
         requires within { passed < length self.old.walk.held }
@@ -118,7 +119,7 @@ impl Fscan {
         only: &Restriction,
         skip: &Skip<'_>,
         steps: &mut Steps<R::Ledger>,
-    ) -> Result<Scanned, NoMemory>
+    ) -> Result<Step<Record>, NoMemory>
         requires can { CanRead (R.shown reader.now) self.old.table self.old.walk.snap }
         requires scans { CanScan (R.shown reader.now) self.old.walk.index self.old.walk.snap }
         requires suits { Suits (R.shown reader.now) self.old.walk.index self.old.walk.snap self.old.walk.range }
@@ -148,7 +149,7 @@ impl Fscan {
         skip: &Skip<'_>,
         columns: &[u32],
         steps: &mut Steps<R::Ledger>,
-    ) -> Result<Scanned, NoMemory>
+    ) -> Result<Step<Record>, NoMemory>
         requires scans { CanScan (R.shown reader.now) self.old.walk.index self.old.walk.snap }
         requires suits { Suits (R.shown reader.now) self.old.walk.index self.old.walk.snap self.old.walk.range }
         requires names { NamesThese columns.now only.now }
@@ -170,7 +171,7 @@ impl Fscan {
         &mut self,
         reader: &R,
         steps: &mut Steps<R::Ledger>,
-    ) -> Result<Scanned, NoMemory>
+    ) -> Result<Step<Record>, NoMemory>
         requires scans { CanScan (R.shown reader.now) self.old.walk.index self.old.walk.snap }
         requires suits { Suits (R.shown reader.now) self.old.walk.index self.old.walk.snap self.old.walk.range }
         ensures turned { IfOk result (Turned self.old self.new ((R.shown reader.now).entries self.old.walk.index self.old.walk.snap) ((R.shown reader.now).cuts self.old.walk.index self.old.walk.snap)) }
@@ -182,9 +183,9 @@ impl Fscan {
     {
         let more = self.walk.turn(reader, steps)?;
         if more {
-            Ok(Scanned::Working)
+            Ok(Step::Working)
         } else {
-            Ok(Scanned::End)
+            Ok(Step::End)
         }
     }
 }

@@ -9,7 +9,7 @@ mod sscan;
 mod tscan;
 
 pub use front::Front;
-pub use fscan::Fscan;
-pub use skip::{Scanned, Skip};
+pub use fscan::{Fscan, look};
+pub use skip::Skip;
 pub use sscan::Sscan;
 pub use tscan::Tscan;

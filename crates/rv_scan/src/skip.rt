@@ -6,17 +6,6 @@ use rv_keylist::{Delivered, KeyList};
 use rv_restrict::{Restriction, Tri};
 use rv_value::{Record, RowNo};
 
-/// What a step of a scan answers.
-#[derive(Drop)]
-pub enum Scanned {
-    /// The next row.
-    Found(Record),
-    /// No row yet; less is left to do.
-    Working,
-    /// No row is left.
-    End,
-}
-
 /// The rows that a scan passes over: those that were delivered, and those that a finished list cannot have.
 #[derive(Clone, Copy)]
 pub struct Skip<'a> {

@@ -13,9 +13,9 @@ ghost use Rattle.rv_scan.specs.Told.{FindsTold, Goes, KeyReads, NamesThese, Same
 ghost use Rattle.rv_scan.specs.declared.along.Ahead.TheVariants.{First};
 
 use crate::along::Walk;
-use crate::skip::{Scanned, Skip};
+use crate::skip::Skip;
 use rv_judge::Steps;
-use rv_reader::Reader;
+use rv_reader::{Reader, Step};
 use rv_restrict::{Restriction, Tri};
 use rv_value::{Duplicate, IndexEntry, NoMemory, Range, Record, Value, Values};
 use std::alloc::Global;
@@ -155,7 +155,7 @@ fn turn_on<R: Reader>(
     walk: &mut Walk,
     reader: &R,
     steps: &mut Steps<R::Ledger>,
-) -> Result<Scanned, NoMemory>
+) -> Result<Step<Record>, NoMemory>
     requires scans { CanScan (R.shown reader.now) walk.old.index walk.old.snap }
     requires suits { Suits (R.shown reader.now) walk.old.index walk.old.snap walk.old.range }
     ensures goes { IfOk result (Goes walk.old walk.new ((R.shown reader.now).entries walk.old.index walk.old.snap) ((R.shown reader.now).cuts walk.old.index walk.old.snap)) }
@@ -166,9 +166,9 @@ fn turn_on<R: Reader>(
 {
     let more = walk.turn(reader, steps)?;
     if more {
-        Ok(Scanned::Working)
+        Ok(Step::Working)
     } else {
-        Ok(Scanned::End)
+        Ok(Step::End)
     }
 }
 
@@ -180,7 +180,7 @@ pub fn tell_along<R: Reader>(
     skip: &Skip<'_>,
     columns: &[u32],
     steps: &mut Steps<R::Ledger>,
-) -> Result<Scanned, NoMemory>
+) -> Result<Step<Record>, NoMemory>
     requires scans { CanScan (R.shown reader.now) walk.old.index walk.old.snap }
     requires suits { Suits (R.shown reader.now) walk.old.index walk.old.snap walk.old.range }
     requires names { NamesThese columns.now only.now }
@@ -196,7 +196,7 @@ pub fn tell_along<R: Reader>(
     match next_on(walk, only, skip, columns)? {
         Some((passed, record)) => {
             walk.pass(passed);
-            Ok(Scanned::Found(record))
+            Ok(Step::Row(record))
         }
         None => turn_on(walk, reader, steps),
     }
@@ -227,7 +227,7 @@ impl Sscan {
         skip: &Skip<'_>,
         columns: &[u32],
         steps: &mut Steps<R::Ledger>,
-    ) -> Result<Scanned, NoMemory>
+    ) -> Result<Step<Record>, NoMemory>
         requires scans { CanScan (R.shown reader.now) self.old.index self.old.snap }
         requires suits { Suits (R.shown reader.now) self.old.index self.old.snap self.old.range }
         requires names { NamesThese columns.now only.now }

@@ -8,9 +8,9 @@ ghost use Rattle.rv_reader.specs.Tables.{IsTable};
 ghost use Rattle.rv_scan.specs.Due.{HaveColumns, IsReady, Skipped, StepsTo, due, skipped};
 ghost use Rattle.rv_scan.specs.Places.{Fits, PageReads, PageTurns, Turns, rest, work};
 
-use crate::skip::{Scanned, Skip, next_due};
+use crate::skip::{Skip, next_due};
 use rv_judge::Steps;
-use rv_reader::Reader;
+use rv_reader::{Reader, Step};
 use rv_restrict::Restriction;
 use rv_value::{NoMemory, Record, RowNo, Values};
 use std::alloc::Global;
@@ -87,7 +87,7 @@ impl Tscan {
         &mut self,
         reader: &R,
         steps: &mut Steps<R::Ledger>,
-    ) -> Result<Scanned, NoMemory>
+    ) -> Result<Step<Record>, NoMemory>
         requires { CanRead (R.shown reader.now) self.old.table self.old.snap }
         ensures turns { IfOk result (Turns self.old self.new ((R.shown reader.now).rows self.old.table self.old.snap) ((R.shown reader.now).pages self.old.table self.old.snap)) }
         ensures table { IsTable ((R.shown reader.now).rows self.old.table self.old.snap) ((R.shown reader.now).pages self.old.table self.old.snap) }
@@ -97,13 +97,13 @@ impl Tscan {
     {
         let sizes = reader.sizes(self.table, self.snap);
         if self.next >= sizes.pages {
-            return Ok(Scanned::End);
+            return Ok(Step::End);
         }
         let page = reader.page(self.alloc, self.table, self.snap, self.next, steps)?;
         let _before = std::mem::replace(&mut self.held, page);
         self.at = 0;
         self.next += 1;
-        Ok(Scanned::Working)
+        Ok(Step::Working)
     }
 
     /// Gives the next row of the page that is held, or reads the next page, or ends.
@@ -113,7 +113,7 @@ impl Tscan {
         only: &Restriction,
         skip: &Skip<'_>,
         steps: &mut Steps<R::Ledger>,
-    ) -> Result<Scanned, NoMemory>
+    ) -> Result<Step<Record>, NoMemory>
         requires can { CanRead (R.shown reader.now) self.old.table self.old.snap }
         requires fits { Fits self.old ((R.shown reader.now).rows self.old.table self.old.snap) }
         requires columns { HaveColumns only.now ((R.shown reader.now).rows self.old.table self.old.snap) }
@@ -128,7 +128,7 @@ impl Tscan {
         ensures tried { OnErr result (steps.new ≡ page_read steps.old) }
     {
         match next_due(self.held(), only, skip) {
-            Some(passed) => Ok(Scanned::Found(self.give(passed))),
+            Some(passed) => Ok(Step::Row(self.give(passed))),
             None => self.turn(reader, steps),
         }
     }

@@ -6,15 +6,16 @@ use Rattle.rv_judge.specs.Tracing.{CountsAll}
 use Rattle.rv_judge.specs.Verdicts.{Ruling}
 use Rattle.rv_reader.specs.Shown.{Shown}
 use Rattle.rv_choice.specs.declared.query.Query.{Query}
-use Rattle.rv_retrieval.specs.declared.steps.Fg.{Fg}
-use Rattle.rv_retrieval.specs.declared.steps.Fg.TheVariants.{End}
+use Rattle.rv_reader.specs.declared.step.Step.{Step}
+use Rattle.rv_value.specs.declared.record.Record.{Record}
+use Rattle.rv_reader.specs.declared.step.Step.TheVariants.{End}
 use Rattle.rv_retrieval.specs.Opened.{Opened}
 use Rattle.rv_retrieval.specs.Shape.{Shape}
 use Rattle.rv_retrieval.specs.Short.{OnlyLeaves, has_short}
 use Rattle.rv_retrieval.specs.Stepping.{StepsAs}
 use Rattle.rv_search.specs.Searching.{Goes, GoesOut, GoesSome, Ran, RanFetched, RanOut, Searched, StepsAll, searched}
 
-steps_on : (more first : List Fg) (would : ℕ → Facts → Ruling) (shown : Shown) (a b c : Searched) → StepsAll first would shown a b → StepsAll more would shown b c → StepsAll (more ++ first) would shown a c
+steps_on : (more first : List (Step Record)) (would : ℕ → Facts → Ruling) (shown : Shown) (a b c : Searched) → StepsAll first would shown a b → StepsAll more would shown b c → StepsAll (more ++ first) would shown a c
 steps_on [] first would shown a b c before then = subst (StepsAll first would shown a) (sym then) before
 steps_on (fg ∷ more) first would shown a b c before then = (then.0, steps_on more first would shown a b then.0 before then.1, then.2)
 
@@ -23,7 +24,7 @@ pub goes_none : (would : ℕ → Facts → Ruling) (state : ℕ) (shown : Shown)
 goes_none would state shown c old = record { answers = []; made = refl }
 
 -- one step more
-pub goes_on : (v w : ℕ → Facts → Ruling) (s t u : ℕ) (shown : Shown) (c d e : Counts) (old mid new : Shape) → v ≡ w → Goes w s t shown c d old mid → (fg : Fg) × StepsAs v t u shown d e fg mid new → Goes w s u shown c e old new
+pub goes_on : (v w : ℕ → Facts → Ruling) (s t u : ℕ) (shown : Shown) (c d e : Counts) (old mid new : Shape) → v ≡ w → Goes w s t shown c d old mid → (fg : Step Record) × StepsAs v t u shown d e fg mid new → Goes w s u shown c e old new
 goes_on v w s t u shown c d e old mid new rule before step = record {
   answers = step.0 ∷ before.answers;
   made = (searched mid t d, before.made, subst (λ (x : ℕ → Facts → Ruling). StepsAs x t u shown d e step.0 mid new) rule step.1);
@@ -38,7 +39,7 @@ goes_out v w s t u shown c d e old mid new rule before step = record {
 }
 
 -- memory was wanting behind a step, or for it
-pub some_one : (would : ℕ → Facts → Ruling) (state after : ℕ) (shown : Shown) (c d : Counts) (fg : Fg) (old new : Shape) → StepsAs would state after shown c d fg old new → GoesSome would state after shown c old
+pub some_one : (would : ℕ → Facts → Ruling) (state after : ℕ) (shown : Shown) (c d : Counts) (fg : Step Record) (old new : Shape) → StepsAs would state after shown c d fg old new → GoesSome would state after shown c old
 some_one would state after shown c d fg old new step = record { last = new; counts = d; goes = record { answers = fg ∷ []; made = (searched old state c, refl, step) } }
 
 pub some_none : (would : ℕ → Facts → Ruling) (state after : ℕ) (shown : Shown) (c : Counts) (old : Shape) → after ≡ state → GoesSome would state after shown c old

@@ -20,8 +20,8 @@ use Rattle.rv_retrieval.specs.Shape.{RetrievalFits, Shape, rest}
 use Rattle.rv_retrieval.specs.Short.{OnlyLeaves, Settled, fetches_left, has_short}
 use Rattle.rv_retrieval.specs.Opened.{Opened}
 use Rattle.rv_retrieval.specs.Stepping.{StepsAs}
-use Rattle.rv_retrieval.specs.declared.steps.Fg.{Fg}
-use Rattle.rv_retrieval.specs.declared.steps.Fg.TheVariants.{End}
+use Rattle.rv_reader.specs.declared.step.Step.{Step}
+use Rattle.rv_reader.specs.declared.step.Step.TheVariants.{End}
 use Rattle.rv_search.specs.Named.{columns_named}
 
 -- WHAT A SEARCH ASKS: the rows of a table at a snapshot for which a restriction is True, in any order. The columns
@@ -77,7 +77,7 @@ abbrev pub searched : Shape → ℕ → Counts → Searched
 searched retrieval judge counts = record { retrieval = retrieval; judge = judge; counts = counts }
 
 -- foreground steps that came to these answers, the last one first in the list; each does, reads and asks as one does
-abbrev pub StepsAll : List Fg → (ℕ → Facts → Ruling) → Shown → Searched → Searched → Type 0
+abbrev pub StepsAll : List (Step Record) → (ℕ → Facts → Ruling) → Shown → Searched → Searched → Type 0
 StepsAll [] would shown old new = new ≡ old
 StepsAll (fg ∷ fgs) would shown old new =
     (mid : Searched) × StepsAll fgs would shown old mid
@@ -85,7 +85,7 @@ StepsAll (fg ∷ fgs) would shown old new =
 
 -- such steps lead from one retrieval to another
 pub record Goes (would : ℕ → Facts → Ruling) (state after : ℕ) (shown : Shown) (c d : Counts) (old new : Shape) : Type 0 where
-  pub answers : List Fg
+  pub answers : List (Step Record)
   pub made : StepsAll answers would shown (searched old state c) (searched new after d)
 
 -- somewhere, and there the judge stands
@@ -96,14 +96,14 @@ pub record GoesSome (would : ℕ → Facts → Ruling) (state after : ℕ) (show
 
 -- to the end, which the last one found
 pub record GoesOut (would : ℕ → Facts → Ruling) (state after : ℕ) (shown : Shown) (c d : Counts) (old : Shape) : Type 0 where
-  pub before : List Fg
+  pub before : List (Step Record)
   pub last : Shape
   pub made : StepsAll (End ∷ before) would shown (searched old state c) (searched last after d)
 
 -- one step, by whether it found the end
 abbrev pub StepsOn : Bool → (ℕ → Facts → Ruling) → ℕ → ℕ → Shown → Counts → Counts → Shape → Shape → Type 0
 StepsOn true would state after shown c d old new = StepsAs would state after shown c d End old new
-StepsOn false would state after shown c d old new = (fg : Fg) × StepsAs would state after shown c d fg old new
+StepsOn false would state after shown c d old new = (fg : Step Record) × StepsAs would state after shown c d fg old new
 
 -- A SEARCH, however far it came: its retrieval was opened and stepped, and the judge stands where these steps leave it
 pub record Ran (would : ℕ → Facts → Ruling) (state after : ℕ) (shown : Shown) (query : Query) : Type 0 where

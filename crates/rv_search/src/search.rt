@@ -16,9 +16,9 @@ ghost use Rattle.rv_search.specs.Searching.{Gathers, GoesOut, GoesSome, OnlyReco
 use crate::named::columns_named;
 use rv_choice::{Goal2, Query};
 use rv_judge::{Judge, Steps};
-use rv_reader::Reader;
+use rv_reader::{Reader, Step};
 use rv_restrict::Restriction;
-use rv_retrieval::{Fg, Retrieval};
+use rv_retrieval::Retrieval;
 use rv_value::{Duplicate, Items, NoMemory, Record, RowNo, Shared};
 use std::alloc::Global;
 
@@ -99,12 +99,12 @@ fn forward<R: Reader>(
     ensures stays { would judge.new ≡ would judge.old }
 {
     match retrieval.fg_step(reader, judge, steps)? {
-        Fg::Row(row) => {
+        Step::Row(row) => {
             found.push(row.row)?;
             Ok(false)
         }
-        Fg::Working => Ok(false),
-        Fg::End => Ok(true),
+        Step::Working => Ok(false),
+        Step::End => Ok(true),
     }
 }
 

@@ -14,8 +14,8 @@ use Rattle.rv_restrict.specs.declared.atom.Atom.{Atom}
 use Rattle.rv_value.specs.declared.record.Record.{Record}
 use Rattle.rv_reader.specs.Shown.{Shown}
 use Rattle.rv_scan.specs.Places.{PageReads}
-use Rattle.rv_scan.specs.declared.skip.Scanned.{Scanned}
-use Rattle.rv_scan.specs.declared.skip.Scanned.TheVariants.{Found, Working, End}
+use Rattle.rv_reader.specs.declared.step.Step.{Step as Stepped}
+use Rattle.rv_reader.specs.declared.step.Step.TheVariants.{Row, Working, End}
 use Rattle.rv_jscan.specs.declared.jscan.Given.{Given}
 use Rattle.rv_jscan.specs.declared.jscan.Given.TheVariants.{Accepted, Stale}
 use Rattle.rv_jscan.specs.declared.jscan.ScanPlan.{ScanPlan}
@@ -120,12 +120,12 @@ may_records FinalTable u c d (inl e) = inl (ap (λ (k : Counts). k.records) e)
 may_records FinalTable u c d (inr e) = inl (ap (λ (k : Counts). k.records) e)
 may_records Done u c d e = inl (ap (λ (k : Counts). k.records) e)
 
-key_records : (key : Option ℕ) (only : List (List Atom)) (rows : List Record) (c d : Counts) (s : Scanned) → FetchesKey key only rows c d s → (d.records ≡ c.records) ⊎ (d.records ≡ one_more c.records)
+key_records : (key : Option ℕ) (only : List (List Atom)) (rows : List Record) (c d : Counts) (s : Stepped Record) → FetchesKey key only rows c d s → (d.records ≡ c.records) ⊎ (d.records ≡ one_more c.records)
 key_records None only rows c d s fetches = inl (ap (λ (k : Counts). k.records) fetches.1)
 key_records (Some key) only rows c d s fetches = inr (ap (λ (k : Counts). k.records) fetches.0)
 
-page_records : (s : Scanned) (c d : Counts) → PageReads s c d → d.records ≡ c.records
-page_records (Found r) c d e = ap (λ (k : Counts). k.records) e
+page_records : (s : Stepped Record) (c d : Counts) → PageReads s c d → d.records ≡ c.records
+page_records (Row r) c d e = ap (λ (k : Counts). k.records) e
 page_records Working c d e = ap (λ (k : Counts). k.records) e
 page_records End c d e = ap (λ (k : Counts). k.records) e
 
@@ -146,13 +146,13 @@ step_few would shown rows old new s listed all = by old.control refl s.does.does
     drawn : AreMet stepped.keys stepped.plans shown stepped.snap
     drawn = subst (λ (u : Unioned). AreMet u.keys u.plans shown u.snap) s.does.counts listed
 
-    list_by : (t : Scanned) → old.control ≡ FinalList → FetchesKey (first_key (Some old.keys) None old.at) old.only (rows_of old s.shown) s.before s.behind t → stepped ≡ ended_by t (record old { at = stepped.at }) → Falls t s.before s.behind (keys_work old) (keys_work stepped) → new.trace.fetches + left rows new ≤ old.trace.fetches + left rows old + 0
-    list_by (Found r) e fetches is falls = one_read old.trace.fetches new.trace.fetches s.before.records s.behind.records (left rows old) (left rows new) s.counts.fetches (key_records (first_key (Some old.keys) None old.at) old.only (rows_of old s.shown) s.before s.behind (Found r) fetches) (by_less (left rows new) (keys_work stepped) (keys_work old) (left rows old) (same ∙ left_at rows stepped FinalList (ap (λ (u : Unioned). u.control) is ∙ e)) falls (left_at rows old FinalList e))
+    list_by : (t : Stepped Record) → old.control ≡ FinalList → FetchesKey (first_key (Some old.keys) None old.at) old.only (rows_of old s.shown) s.before s.behind t → stepped ≡ ended_by t (record old { at = stepped.at }) → Falls t s.before s.behind (keys_work old) (keys_work stepped) → new.trace.fetches + left rows new ≤ old.trace.fetches + left rows old + 0
+    list_by (Row r) e fetches is falls = one_read old.trace.fetches new.trace.fetches s.before.records s.behind.records (left rows old) (left rows new) s.counts.fetches (key_records (first_key (Some old.keys) None old.at) old.only (rows_of old s.shown) s.before s.behind (Row r) fetches) (by_less (left rows new) (keys_work stepped) (keys_work old) (left rows old) (same ∙ left_at rows stepped FinalList (ap (λ (u : Unioned). u.control) is ∙ e)) falls (left_at rows old FinalList e))
     list_by Working e fetches is falls = one_read old.trace.fetches new.trace.fetches s.before.records s.behind.records (left rows old) (left rows new) s.counts.fetches (key_records (first_key (Some old.keys) None old.at) old.only (rows_of old s.shown) s.before s.behind Working fetches) (by_less (left rows new) (keys_work stepped) (keys_work old) (left rows old) (same ∙ left_at rows stepped FinalList (ap (λ (u : Unioned). u.control) is ∙ e)) falls (left_at rows old FinalList e))
     list_by End e fetches is falls = none_read old.trace.fetches new.trace.fetches s.before.records s.behind.records (left rows old) (left rows new) s.counts.fetches (ap (λ (k : Counts). k.records) falls) (none_le (left rows new) (left rows stepped) (left rows old) same (left_at rows stepped Done (ap (λ (u : Unioned). u.control) is ∙ ap (λ (k : Control). next_control Union k FinalEnded) e)))
 
-    table_by : (t : Scanned) → old.control ≡ FinalTable → stepped ≡ ended_by t (record old { last = stepped.last }) → left rows stepped ≡ 0
-    table_by (Found r) e is = left_at rows stepped FinalTable (ap (λ (u : Unioned). u.control) is ∙ e)
+    table_by : (t : Stepped Record) → old.control ≡ FinalTable → stepped ≡ ended_by t (record old { last = stepped.last }) → left rows stepped ≡ 0
+    table_by (Row r) e is = left_at rows stepped FinalTable (ap (λ (u : Unioned). u.control) is ∙ e)
     table_by Working e is = left_at rows stepped FinalTable (ap (λ (u : Unioned). u.control) is ∙ e)
     table_by End e is = left_at rows stepped Done (ap (λ (u : Unioned). u.control) is ∙ ap (λ (k : Control). next_control Union k FinalEnded) e)
 

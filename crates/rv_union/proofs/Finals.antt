@@ -12,8 +12,9 @@ use Rattle.rv_judge.specs.Verdicts.{Ruling}
 use Rattle.rv_reader.specs.declared.reader.Chunk.{Chunk}
 use Rattle.rv_reader.specs.Shown.{Shown}
 use Rattle.rv_scan.specs.Places.{PageReads, PageTurns}
-use Rattle.rv_scan.specs.declared.skip.Scanned.{Scanned}
-use Rattle.rv_scan.specs.declared.skip.Scanned.TheVariants.{Working, End}
+use Rattle.rv_reader.specs.declared.step.Step.{Step}
+use Rattle.rv_value.specs.declared.record.Record.{Record}
+use Rattle.rv_reader.specs.declared.step.Step.TheVariants.{Working, End}
 use Rattle.rv_jscan.specs.declared.jscan.Given.{Given}
 use Rattle.rv_jscan.specs.declared.jscan.Given.TheVariants.{Accepted}
 use Rattle.rv_jscan.specs.declared.jscan.ScanPlan.{ScanPlan}
@@ -45,7 +46,7 @@ done_rest r shown e = rest_at r shown Done e ∙ no_rest r.only (rows_of r shown
 
 -- The list.
 
-pub list_scanned : (r new : Unioned) (shown : Shown) (s : Scanned) → r.control ≡ FinalList → new ≡ record r { at = new.at } → UnionFits r shown → ((need : List ℕ) → StepMarks need r.only (rows_of r shown) s (list_left (Some r.keys) None r.at) (list_left (Some r.keys) None new.at)) → DoesStep r new shown s
+pub list_scanned : (r new : Unioned) (shown : Shown) (s : Step Record) → r.control ≡ FinalList → new ≡ record r { at = new.at } → UnionFits r shown → ((need : List ℕ) → StepMarks need r.only (rows_of r shown) s (list_left (Some r.keys) None r.at) (list_left (Some r.keys) None new.at)) → DoesStep r new shown s
 list_scanned r new shown s c e f marks need =
     let now = ap (λ (x : Unioned). rest x shown) e ∙ rest_at (record r { at = new.at }) shown FinalList c in
     steps_by need r.only (rows_of r shown) s (list_left (Some r.keys) None r.at) (list_left (Some r.keys) None new.at) (rest r shown) (rest new shown) (rest_at r shown FinalList c) now f.ascend (marks need)
@@ -57,7 +58,7 @@ passed_rest r new shown c e p =
 
 -- The table.
 
-pub table_scanned : (r new : Unioned) (shown : Shown) (s : Scanned) → r.control ≡ FinalTable → new ≡ record r { last = new.last } → UnionFits r shown → ((need : List ℕ) → StepMarks need r.only (rows_of r shown) s (table_left r.last (rows_of r shown) None) (table_left new.last (rows_of r shown) None)) → DoesStep r new shown s
+pub table_scanned : (r new : Unioned) (shown : Shown) (s : Step Record) → r.control ≡ FinalTable → new ≡ record r { last = new.last } → UnionFits r shown → ((need : List ℕ) → StepMarks need r.only (rows_of r shown) s (table_left r.last (rows_of r shown) None) (table_left new.last (rows_of r shown) None)) → DoesStep r new shown s
 table_scanned r new shown s c e f marks need =
     let now = ap (λ (x : Unioned). rest x shown) e ∙ rest_at (record r { last = new.last }) shown FinalTable c in
     steps_by need r.only (rows_of r shown) s (table_left r.last (rows_of r shown) None) (table_left new.last (rows_of r shown) None) (rest r shown) (rest new shown) (rest_at r shown FinalTable c) now f.ascend (marks need)
@@ -123,10 +124,10 @@ ended_effort mid new shown at e = ap (λ (x : Unioned). effort x shown) e ∙ ef
 
 -- WHAT A STEP DOES
 
-pub list_does : (rules : ℕ → Facts → Ruling) (stands : ℕ) (r new : Unioned) (shown : Shown) (c d : Counts) (s : Scanned) → r.control ≡ FinalList → FetchesKey (first_key (Some r.keys) None r.at) r.only (rows_of r shown) c d s → new ≡ ended_by s (record r { at = new.at }) → Falls s c d (keys_work r) (keys_work new) → Does rules stands stands shown c d s r new
+pub list_does : (rules : ℕ → Facts → Ruling) (stands : ℕ) (r new : Unioned) (shown : Shown) (c d : Counts) (s : Step Record) → r.control ≡ FinalList → FetchesKey (first_key (Some r.keys) None r.at) r.only (rows_of r shown) c d s → new ≡ ended_by s (record r { at = new.at }) → Falls s c d (keys_work r) (keys_work new) → Does rules stands stands shown c d s r new
 list_does rules stands r new shown c d s e fetches n falls = subst (λ (x : Control). DoesAs x rules stands stands shown c d s r new) (sym e) (refl, fetches, n, falls)
 
-pub table_does : (rules : ℕ → Facts → Ruling) (stands : ℕ) (r new : Unioned) (shown : Shown) (c d : Counts) (s : Scanned) → r.control ≡ FinalTable → PageReads s c d → new ≡ ended_by s (record r { last = new.last }) → PageTurns s r.last new.last (shown.pages r.table r.snap) → Does rules stands stands shown c d s r new
+pub table_does : (rules : ℕ → Facts → Ruling) (stands : ℕ) (r new : Unioned) (shown : Shown) (c d : Counts) (s : Step Record) → r.control ≡ FinalTable → PageReads s c d → new ≡ ended_by s (record r { last = new.last }) → PageTurns s r.last new.last (shown.pages r.table r.snap) → Does rules stands stands shown c d s r new
 table_does rules stands r new shown c d s e reads n turns = subst (λ (x : Control). DoesAs x rules stands stands shown c d s r new) (sym e) (refl, reads, n, turns)
 
 pub ends_done : (mid new : Unioned) → IsFinal mid.control → new ≡ gone FinalEnded mid → new.control ≡ Done

@@ -19,7 +19,8 @@ use Rattle.rv_reader.specs.Leaves.{leaves_behind, leaves_for}
 use Rattle.rv_reader.specs.Shown.{Shown}
 use Rattle.rv_reader.proofs.Chunks.{leaves_nearer}
 use Rattle.rv_scan.specs.Reads.{OneAtMost}
-use Rattle.rv_scan.specs.declared.skip.Scanned.{Scanned}
+use Rattle.rv_reader.specs.declared.step.Step.{Step}
+use Rattle.rv_value.specs.declared.record.Record.{Record}
 use Rattle.rv_jscan.specs.declared.jscan.Given.{Given}
 use Rattle.rv_jscan.specs.declared.jscan.Given.TheVariants.{Accepted, Stale}
 use Rattle.rv_jscan.specs.declared.jscan.ScanPlan.{ScanPlan}
@@ -185,6 +186,6 @@ stage_leaves one before after old new keeps (inl e) none = let same = ap (λ (c 
 stage_leaves one before after old new keeps (inr e) none = let same = ap (λ (c : Counts). c.leaves) e ∙ keeps before in omega arith
 
 -- the trace's counts do not matter
-pub leaves_if : {E : Type 0} (r : Result Scanned E) (before after : Counts) (old : ℕ) (mid new : Unioned) (t : Trace) (shown : Shown) → new ≡ record mid { trace = t } → IfOk r (λ s. LeavesFall before after old (leaves_left mid shown)) → IfOk r (λ s. LeavesFall before after old (leaves_left new shown))
+pub leaves_if : {E : Type 0} (r : Result (Step Record) E) (before after : Counts) (old : ℕ) (mid new : Unioned) (t : Trace) (shown : Shown) → new ≡ record mid { trace = t } → IfOk r (λ s. LeavesFall before after old (leaves_left mid shown)) → IfOk r (λ s. LeavesFall before after old (leaves_left new shown))
 leaves_if (Ok s) before after old mid new t shown e falls = subst (λ (x : Unioned). LeavesFall before after old (leaves_left x shown)) (sym e) falls
 leaves_if (Err x) before after old mid new t shown e falls = tt

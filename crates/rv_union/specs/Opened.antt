@@ -18,8 +18,8 @@ use Rattle.rv_reader.specs.Shown.{Shown, CanRead}
 use Rattle.rv_scan.specs.Due.{HaveColumns}
 use Rattle.rv_scan.specs.Places.{Fits as PlaceFits, PageReads, PageTurns, Place, work}
 use Rattle.rv_scan.specs.Reads.{OneAtMost}
-use Rattle.rv_scan.specs.declared.skip.Scanned.{Scanned}
-use Rattle.rv_scan.specs.declared.skip.Scanned.TheVariants.{Found, Working, End}
+use Rattle.rv_reader.specs.declared.step.Step.{Step}
+use Rattle.rv_reader.specs.declared.step.Step.TheVariants.{Row, Working, End}
 use Rattle.rv_jscan.specs.declared.jscan.ScanPlan.{ScanPlan}
 use Rattle.rv_jscan.specs.declared.jscan.Given.TheVariants.{Accepted}
 use Rattle.rv_jscan.specs.Joint.{no_counts, plan_at}
@@ -85,18 +85,18 @@ pub record Steady (old new : Unioned) (shown : Shown) : Type 0 where
   pub tells : Tells old → Tells new
 
 -- WHAT A STEP DOES TO THE REST: it takes one record out, or leaves it, or it is empty
-abbrev pub DoesStep : Unioned → Unioned → Shown → Scanned → Type 0
+abbrev pub DoesStep : Unioned → Unioned → Shown → Step Record → Type 0
 DoesStep old new shown scanned = (need : List ℕ) → Steps need [] scanned (rest old shown) (rest new shown)
 
 -- an end leads to the last control
-abbrev pub EndsIn : Unioned → Scanned → Type 0
-EndsIn u (Found record_found) = Unit {0}
+abbrev pub EndsIn : Unioned → Step Record → Type 0
+EndsIn u (Row record_found) = Unit {0}
 EndsIn u Working = Unit {0}
 EndsIn u End = u.control ≡ Done
 
 -- a source at its end leads to the last control
-abbrev pub ended_by : Scanned → Unioned → Unioned
-ended_by (Found record_found) u = u
+abbrev pub ended_by : Step Record → Unioned → Unioned
+ended_by (Row record_found) u = u
 ended_by Working u = u
 ended_by End u = gone FinalEnded u
 
@@ -112,7 +112,7 @@ pub record OnePiece (would : ℕ → Facts → Ruling) (state after : ℕ) (old 
 -- WHAT A STEP DOES AND READS, by the control: one piece, upon which the judge is asked and obeyed as by a give; the
 -- fetch of the next key of the list, which is then behind it; a step through the table, where a page that is read was
 -- there and is then behind it; or nothing
-abbrev pub DoesAs : Control → (ℕ → Facts → Ruling) → ℕ → ℕ → Shown → Counts → Counts → Scanned → Unioned → Unioned
+abbrev pub DoesAs : Control → (ℕ → Facts → Ruling) → ℕ → ℕ → Shown → Counts → Counts → Step Record → Unioned → Unioned
     → Type 0
 DoesAs Building would state after shown c d s old new = ⊥
 DoesAs ForegroundAlone would state after shown c d s old new = ⊥
@@ -126,7 +126,7 @@ DoesAs FinalTable would state after shown c d s old new =
     × PageTurns s old.last new.last (shown.pages old.table old.snap)
 DoesAs Done would state after shown c d s old new = (after ≡ state) × (s ≡ End) × (d ≡ c) × (new ≡ old)
 
-abbrev pub Does : (ℕ → Facts → Ruling) → ℕ → ℕ → Shown → Counts → Counts → Scanned → Unioned → Unioned → Type 0
+abbrev pub Does : (ℕ → Facts → Ruling) → ℕ → ℕ → Shown → Counts → Counts → Step Record → Unioned → Unioned → Type 0
 Does would state after shown c d s old new = DoesAs old.control would state after shown c d s old new
 
 -- what a step may read, whatever it answers: only a union that was dropped reads pages
@@ -147,7 +147,7 @@ pub record OnlyTakes (old new : Unioned) : Type 0 where
   pub fewer : keys_work new ≤ keys_work old
 
 -- what it does, and then what it read is counted
-pub record StepsAs (would : ℕ → Facts → Ruling) (state after : ℕ) (shown : Shown) (c d : Counts) (s : Scanned)
+pub record StepsAs (would : ℕ → Facts → Ruling) (state after : ℕ) (shown : Shown) (c d : Counts) (s : Step Record)
     (old new : Unioned) : Type 0 where
   pub stepped : Unioned
   pub does : Does would state after shown c d s old stepped

@@ -26,10 +26,9 @@ use rv_jscan::{Admits, Lane, Piece, PieceId, ScanCounts, ScanPlan, Sieved};
 use rv_judge::{Control, Counts, Event, Facts, Happening, Steps, Strategy, Trace, course, project};
 use rv_keylist::KeyList;
 use rv_keyset::KeySet;
-use rv_reader::Reader;
+use rv_reader::{Reader, Step};
 use rv_restrict::Restriction;
-use rv_scan::Scanned;
-use rv_value::{NoMemory, RowNo};
+use rv_value::{NoMemory, Record, RowNo};
 use std::alloc::Global;
 use std::marker::Model;
 use std::mem;
@@ -500,7 +499,7 @@ impl Union {
         &mut self,
         reader: &R,
         steps: &mut Steps<R::Ledger>,
-    ) -> Result<Scanned, NoMemory>
+    ) -> Result<Step<Record>, NoMemory>
         requires fits { UnionFits self.old (R.shown reader.now) }
         ensures same { self.new ≡ record self.old { at = self.new.at } }
         ensures marks { (need : List ℕ) → IfOk result (λ s. StepMarks need self.old.only (rows_of self.old (R.shown reader.now)) s (list_left (Some self.old.keys) None self.old.at) (list_left (Some self.old.keys) None self.new.at)) }
@@ -528,7 +527,7 @@ impl Union {
         &mut self,
         reader: &R,
         steps: &mut Steps<R::Ledger>,
-    ) -> Result<Scanned, NoMemory>
+    ) -> Result<Step<Record>, NoMemory>
         requires fits { UnionFits self.old (R.shown reader.now) }
         ensures same { self.new ≡ record self.old { last = self.new.last } }
         ensures last { LastFits self.old.table self.old.snap self.new.last (R.shown reader.now) }

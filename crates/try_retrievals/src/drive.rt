@@ -7,8 +7,7 @@ ghost use Rattle.try_retrievals.specs.Driving.{Gives, Stays, numbers_of};
 use rv_access::Access;
 use rv_jscan::{Given, Piece, Taken, sieve};
 use rv_judge::{Judge, Steps};
-use rv_reader::Reader;
-use rv_retrieval::Fg;
+use rv_reader::{Reader, Step};
 use rv_value::{Duplicate, NoMemory, Record};
 use std::alloc::Global;
 
@@ -135,12 +134,12 @@ fn forward<R: Reader>(
     ensures ends { result ≡ Ok true → rest access.new (R.shown reader.now) ≡ [] }
 {
     match access.fg_step(reader, judge, steps)? {
-        Fg::Row(row) => {
+        Step::Row(row) => {
             rows.push(row)?;
             Ok(false)
         }
-        Fg::Working => Ok(false),
-        Fg::End => Ok(true),
+        Step::Working => Ok(false),
+        Step::End => Ok(true),
     }
 }
 
@@ -162,8 +161,8 @@ fn stays_ended<R: Reader>(
         }
     }
     match access.fg_step(reader, judge, steps)? {
-        Fg::End => Ok(quiet),
-        Fg::Row(_) | Fg::Working => Ok(false),
+        Step::End => Ok(quiet),
+        Step::Row(_) | Step::Working => Ok(false),
     }
 }
 

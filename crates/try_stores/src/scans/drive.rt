@@ -8,9 +8,9 @@ ghost use Rattle.rv_scan.specs.Told.{NamesThese, told};
 
 use crate::list::put;
 use rv_judge::Steps;
-use rv_reader::Reader;
+use rv_reader::{Reader, Step};
 use rv_restrict::Restriction;
-use rv_scan::{Fscan, Scanned, Skip, Sscan, Tscan};
+use rv_scan::{Fscan, Skip, Sscan, Tscan};
 use rv_value::{NoMemory, Range, Record};
 use std::alloc::Global;
 
@@ -33,14 +33,14 @@ pub fn by_pages<R: Reader>(
     let mut found = Vec::new(alloc);
     'scan: loop {
         match scan.step(reader, only, skip, steps) {
-            Ok(Scanned::Found(row)) => {
+            Ok(Step::Row(row)) => {
                 if let Err(fault) = put(&mut found, row) {
                     drop(scan);
                     return Err(fault);
                 }
             }
-            Ok(Scanned::Working) => {}
-            Ok(Scanned::End) => {
+            Ok(Step::Working) => {}
+            Ok(Step::End) => {
                 drop(scan);
                 return Ok(found);
             }
@@ -75,14 +75,14 @@ pub fn by_fetches<R: Reader>(
     let mut found = Vec::new(alloc);
     'scan: loop {
         match scan.step(reader, only, skip, steps) {
-            Ok(Scanned::Found(row)) => {
+            Ok(Step::Row(row)) => {
                 if let Err(fault) = put(&mut found, row) {
                     drop(scan);
                     return Err(fault);
                 }
             }
-            Ok(Scanned::Working) => {}
-            Ok(Scanned::End) => {
+            Ok(Step::Working) => {}
+            Ok(Step::End) => {
                 drop(scan);
                 return Ok(found);
             }
@@ -116,14 +116,14 @@ pub fn by_keys<R: Reader>(
     let mut found = Vec::new(alloc);
     'scan: loop {
         match scan.step(reader, only, skip, columns, steps) {
-            Ok(Scanned::Found(row)) => {
+            Ok(Step::Row(row)) => {
                 if let Err(fault) = put(&mut found, row) {
                     drop(scan);
                     return Err(fault);
                 }
             }
-            Ok(Scanned::Working) => {}
-            Ok(Scanned::End) => {
+            Ok(Step::Working) => {}
+            Ok(Step::End) => {
                 drop(scan);
                 return Ok(found);
             }

@@ -7,15 +7,15 @@ use Rattle.rv_cursor.proofs.Moving.{fetch_ends, fetch_on, moves_given, moves_on,
 use Rattle.rv_cursor.proofs.fetching.fetch.Goals as goal
 
 pub give-requires : goal.give-requires
-give-requires g c = record { held = rw c.in-Ok-Held.field-0-is at c.in-Ok-Held.ensures.hand }
+give-requires g c = record { held = rw c.in-Ok-Row.field-0-is at c.in-Ok-Row.ensures.hand }
 
-pub returns-in-Ok-Held : goal.returns-in-Ok-Held
-returns-in-Ok-Held g c =
+pub returns-in-Ok-Row : goal.returns-in-Ok-Row
+returns-in-Ok-Row g c =
     let shown = g.R.Reader.shown c.args.reader.now in
     let before = c.turns.invariant in
     let stays = stays_on shown _ _ _ before.stays c.turn.ensures.stays in
     let seen = seen_stays shown c.args.cursor.now c.turns.cursor before.stays.same in
-    let turn = turn_given _ _ c.args.beside _ _ _ _ c.turn.new.cursor.plan c.give.new.cursor.plan c.give.ensures.plan (rw c.in-Ok-Held.field-0-is at (c.in-Ok-Held.ensures.turn none_told)) in
+    let turn = turn_given _ _ c.args.beside _ _ _ _ c.turn.new.cursor.plan c.give.new.cursor.plan c.give.ensures.plan (rw c.in-Ok-Row.field-0-is at (c.in-Ok-Row.ensures.turn none_told)) in
     record {
       fits = c.give.ensures.fits shown stays.fits;
       same = same_on _ c.turn.new.cursor _ stays.same c.give.ensures.same;

@@ -1,6 +1,6 @@
 use Rattle.std.proofs.Common.{◌∙◌, sym}
 use Rattle.rv_value.proofs.Lists.{on_err}
-use Rattle.rv_retrieval.specs.declared.steps.Fg.TheVariants.{Row, Working}
+use Rattle.rv_reader.specs.declared.step.Step.TheVariants.{Row, Working}
 use Rattle.rv_search.proofs.Gathering.{gathers_none, gathers_row}
 use Rattle.rv_search.proofs.Goings.{some_none, some_one}
 use Rattle.rv_search.proofs.search.forward.Goals as goal

@@ -1,31 +1,26 @@
-use Rattle.std.proofs.Common.{refl}
-use Rattle.rv_access.proofs.Answering.{fg_spends}
-use Rattle.rv_access.proofs.OfUnions.{fits_on, gives_step, only_course, tells_on}
+use Rattle.rv_access.proofs.OfUnions.{course_if, does_as, ends_done, fits_on, gives_step, still_if, tells_on}
 use Rattle.rv_access.proofs.uniting.UnitedQuery.fg_step.Goals as goal
 
-pub returns-in-Ok-clause-fits : goal.returns-in-Ok-clause-fits
-returns-in-Ok-clause-fits g c = fits_on c.args.self.now c.step-stepped.new.self (g.R.Reader.shown c.args.reader.now) c.step-stepped.ensures.same c.requires.fits c.step-stepped.ensures.fits
+pub returns-clause-fits : goal.returns-clause-fits
+returns-clause-fits g c = fits_on c.args.self.now c.step.new.self (g.R.Reader.shown c.args.reader.now) c.step.ensures.same c.requires.fits c.step.ensures.fits
 
-pub returns-in-Err-clause-fits : goal.returns-in-Err-clause-fits
-returns-in-Err-clause-fits g c = fits_on c.args.self.now c.step-stepped.new.self (g.R.Reader.shown c.args.reader.now) c.step-stepped.ensures.same c.requires.fits c.step-stepped.ensures.fits
+pub returns-clause-step : goal.returns-clause-step
+returns-clause-step g c = gives_step c.step.result c.args.self.now c.step.new.self (g.R.Reader.shown c.args.reader.now) c.requires.fits.over.order c.step.ensures.step
 
-pub returns-in-Ok-clause-tells : goal.returns-in-Ok-clause-tells
-returns-in-Ok-clause-tells g c t = tells_on c.args.self.now c.step-stepped.new.self c.step-stepped.ensures.same c.step-stepped.ensures.tells t
+pub returns-clause-ends : goal.returns-clause-ends
+returns-clause-ends g c = ends_done c.step.result c.step.new.self c.step.ensures.ends
 
-pub returns-in-Err-clause-tells : goal.returns-in-Err-clause-tells
-returns-in-Err-clause-tells g c t = tells_on c.args.self.now c.step-stepped.new.self c.step-stepped.ensures.same c.step-stepped.ensures.tells t
+pub returns-clause-does : goal.returns-clause-does
+returns-clause-does g c = does_as c.step.result _ _ _ (g.R.Reader.shown c.args.reader.now) c.args.steps.now c.step.new.steps c.args.self.now c.step.new.self c.step.ensures.does
 
-pub returns-in-Ok-clause-step : goal.returns-in-Ok-clause-step
-returns-in-Ok-clause-step g c = gives_step c.args.self.now c.step-stepped.new.self (g.R.Reader.shown c.args.reader.now) c.in-Ok.scanned c.answer.result c.requires.fits.over.order c.in-Ok.ensures.step c.answer.ensures
+pub returns-clause-still : goal.returns-clause-still
+returns-clause-still g c = still_if c.step.result c.args.self.now c.step.new.self c.step.ensures.still
 
-pub returns-in-Ok-clause-does : goal.returns-in-Ok-clause-does
-returns-in-Ok-clause-does g c = record { scanned = c.in-Ok.scanned; answers = c.answer.ensures; same = refl; steps = c.in-Ok.ensures.does }
+pub returns-clause-course : goal.returns-clause-course
+returns-clause-course g c = course_if c.step.result c.args.self.now c.step.new.self c.step.ensures.still
 
-pub returns-in-Ok-clause-spends : goal.returns-in-Ok-clause-spends
-returns-in-Ok-clause-spends g c = fg_spends c.in-Ok.scanned c.answer.result _ _ _ _ c.step-stepped.ensures.tries.less c.in-Ok.ensures.spends c.answer.ensures
+pub returns-clause-tells : goal.returns-clause-tells
+returns-clause-tells g c t = tells_on c.args.self.now c.step.new.self c.step.ensures.same c.step.ensures.tells t
 
-pub returns-in-Err-clause-still : goal.returns-in-Err-clause-still
-returns-in-Err-clause-still g c = record { same = refl; only = c.in-Err.ensures.still }
-
-pub returns-in-Err-clause-course : goal.returns-in-Err-clause-course
-returns-in-Err-clause-course g c = only_course c.args.self.now c.step-stepped.new.self c.in-Err.ensures.still
+pub returns-clause-spends : goal.returns-clause-spends
+returns-clause-spends g c = c.step.ensures.spends

@@ -6,7 +6,7 @@ use Rattle.rv_jscan.specs.Joint.{keys_of}
 use Rattle.rv_reader.specs.Tables.{row_at}
 use Rattle.rv_scan.proofs.Fetches.{found_columns}
 use Rattle.rv_final.specs.Stage.{keys_left}
-use Rattle.rv_final.proofs.Lists.{ends_fetches, given_is, key_falls, key_fetches, key_marks, key_records, key_tries, list_ended, wanting_tries}
+use Rattle.rv_final.proofs.Lists.{ends_fetches, key_falls, key_fetches, key_marks, key_records, key_tries, list_ended, looked_at, wanting_tries}
 use Rattle.rv_final.proofs.stage.Final.list_step.Goals as goal
 
 pub pass_key-requires : goal.pass_key-requires
@@ -26,14 +26,14 @@ returns-in-None-clause-fetches g c = ends_fetches (keys_of (option_copied c.args
 pub returns-in-Ok-clause-marks : goal.returns-in-Ok-clause-marks
 returns-in-Ok-clause-marks g c need =
     let rows = (g.R.Reader.shown c.args.reader.now).rows c.args.table c.args.snap in
-    let looks = given_is c.args.only.now rows c.in-Some.row.0 c.in-Ok.found c.look.result c.given.result c.in-Ok.ensures.row c.look.ensures c.given.ensures in
-    key_marks need c.args.only.now rows (keys_of (option_copied c.args.list)) (option_copied c.args.delivered) c.args.self.now.at c.in-Some.row.0 c.next_left.new.self c.pass_key.new.self c.given.result c.requires.ascend c.next_left.ensures.passed c.in-Some.ensures.key c.in-Some.ensures.fresh c.pass_key.ensures looks
+    let looks = looked_at c.args.only.now rows c.in-Some.row.0 c.in-Ok.found c.look.result c.in-Ok.ensures.row c.look.ensures in
+    key_marks need c.args.only.now rows (keys_of (option_copied c.args.list)) (option_copied c.args.delivered) c.args.self.now.at c.in-Some.row.0 c.next_left.new.self c.pass_key.new.self c.look.result c.requires.ascend c.next_left.ensures.passed c.in-Some.ensures.key c.in-Some.ensures.fresh c.pass_key.ensures looks
 
 pub returns-in-Ok-clause-fetches : goal.returns-in-Ok-clause-fetches
 returns-in-Ok-clause-fetches g c =
     let rows = (g.R.Reader.shown c.args.reader.now).rows c.args.table c.args.snap in
-    let looks = given_is c.args.only.now rows c.in-Some.row.0 c.in-Ok.found c.look.result c.given.result c.in-Ok.ensures.row c.look.ensures c.given.ensures in
-    key_fetches (keys_of (option_copied c.args.list)) (option_copied c.args.delivered) c.args.self.now.at c.in-Some.row.0 c.args.only.now rows c.args.steps.now c.fetch.new.steps c.given.result c.in-Some.ensures.first c.fetch.ensures.counted looks
+    let looks = looked_at c.args.only.now rows c.in-Some.row.0 c.in-Ok.found c.look.result c.in-Ok.ensures.row c.look.ensures in
+    key_fetches (keys_of (option_copied c.args.list)) (option_copied c.args.delivered) c.args.self.now.at c.in-Some.row.0 c.args.only.now rows c.args.steps.now c.fetch.new.steps c.look.result c.in-Some.ensures.first c.fetch.ensures.counted looks
 
 pub returns-in-Ok-clause-tries : goal.returns-in-Ok-clause-tries
 returns-in-Ok-clause-tries g c = key_tries (keys_of (option_copied c.args.list)) c.args.self.now.at c.in-Some.row.0 c.next_left.new.self c.pass_key.new.self c.args.steps.now c.fetch.new.steps c.in-Some.ensures.key c.next_left.ensures.fewer c.pass_key.ensures c.fetch.ensures.counted
@@ -41,8 +41,8 @@ returns-in-Ok-clause-tries g c = key_tries (keys_of (option_copied c.args.list))
 pub returns-in-Ok-clause-falls : goal.returns-in-Ok-clause-falls
 returns-in-Ok-clause-falls g c =
     let rows = (g.R.Reader.shown c.args.reader.now).rows c.args.table c.args.snap in
-    let looks = given_is c.args.only.now rows c.in-Some.row.0 c.in-Ok.found c.look.result c.given.result c.in-Ok.ensures.row c.look.ensures c.given.ensures in
-    key_falls (keys_of (option_copied c.args.list)) c.args.self.now.at c.in-Some.row.0 c.args.only.now (row_at rows c.in-Some.row.0) c.next_left.new.self c.pass_key.new.self c.args.steps.now c.fetch.new.steps c.given.result c.in-Some.ensures.key c.next_left.ensures.fewer c.pass_key.ensures looks
+    let looks = looked_at c.args.only.now rows c.in-Some.row.0 c.in-Ok.found c.look.result c.in-Ok.ensures.row c.look.ensures in
+    key_falls (keys_of (option_copied c.args.list)) c.args.self.now.at c.in-Some.row.0 c.args.only.now (row_at rows c.in-Some.row.0) c.next_left.new.self c.pass_key.new.self c.args.steps.now c.fetch.new.steps c.look.result c.in-Some.ensures.key c.next_left.ensures.fewer c.pass_key.ensures looks
 
 pub returns-in-Ok-clause-records : goal.returns-in-Ok-clause-records
 returns-in-Ok-clause-records g c = key_records (keys_of (option_copied c.args.list)) c.args.self.now.at c.in-Some.row.0 c.next_left.new.self c.pass_key.new.self c.args.steps.now c.fetch.new.steps c.in-Some.ensures.key c.next_left.ensures.fewer c.pass_key.ensures c.fetch.ensures.counted

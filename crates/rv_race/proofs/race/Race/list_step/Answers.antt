@@ -2,7 +2,7 @@ use Rattle.std.proofs.Common.{◌≡◌, ◌∙◌, ℕ, ap, inl, refl}
 use Rattle.rv_value.proofs.Lists.{on_err}
 use Rattle.rv_judge.specs.declared.events.Control.TheVariants.{FinalList}
 use Rattle.rv_judge.specs.declared.events.Happening.TheVariants.{FinalEnded}
-use Rattle.rv_scan.specs.declared.skip.Scanned.TheVariants.{Found, Working, End}
+use Rattle.rv_reader.specs.declared.step.Step.TheVariants.{Row, Working, End}
 use Rattle.rv_final.specs.Work.{Falls, Tries}
 use Rattle.rv_final.proofs.Endings.{ended_tries, put_then}
 use Rattle.rv_race.specs.Effort.{effort}
@@ -12,23 +12,23 @@ use Rattle.rv_race.proofs.Finals.{ended_effort, ended_steady, ended_step, ends_d
 use Rattle.rv_race.proofs.Stepped.{only_at_keys, reads_at}
 use Rattle.rv_race.proofs.race.Race.list_step.Goals as goal
 
-pub returns-in-Found-clause-does : goal.returns-in-Found-clause-does
-returns-in-Found-clause-does g c rules stands = list_does rules stands c.args.self.now c.scan_list.new.self (g.R.Reader.shown c.args.reader.now) c.args.steps.now c.scan_list.new.steps (Found c.in-Found.row) c.requires.control (rw c.in-Found.is at c.in_ok-row.ensures.fetches) c.scan_list.ensures.same (rw c.in-Found.is at c.in_ok-row.ensures.falls)
+pub returns-in-Row-clause-does : goal.returns-in-Row-clause-does
+returns-in-Row-clause-does g c rules stands = list_does rules stands c.args.self.now c.scan_list.new.self (g.R.Reader.shown c.args.reader.now) c.args.steps.now c.scan_list.new.steps (Row c.in-Row.row) c.requires.control (rw c.in-Row.is at c.in_ok-row.ensures.fetches) c.scan_list.ensures.same (rw c.in-Row.is at c.in_ok-row.ensures.falls)
 
-pub returns-in-Found-clause-steady : goal.returns-in-Found-clause-steady
-returns-in-Found-clause-steady g c = list_steady c.args.self.now c.scan_list.new.self (g.R.Reader.shown c.args.reader.now) c.requires.control c.scan_list.ensures.same c.requires.fits
+pub returns-in-Row-clause-steady : goal.returns-in-Row-clause-steady
+returns-in-Row-clause-steady g c = list_steady c.args.self.now c.scan_list.new.self (g.R.Reader.shown c.args.reader.now) c.requires.control c.scan_list.ensures.same c.requires.fits
 
-pub returns-in-Found-clause-step : goal.returns-in-Found-clause-step
-returns-in-Found-clause-step g c = list_scanned c.args.self.now c.scan_list.new.self (g.R.Reader.shown c.args.reader.now) (Found c.in-Found.row) c.requires.control c.scan_list.ensures.same c.requires.fits (λ need. rw c.in-Found.is at (c.in_ok-row.ensures.marks need))
+pub returns-in-Row-clause-step : goal.returns-in-Row-clause-step
+returns-in-Row-clause-step g c = list_scanned c.args.self.now c.scan_list.new.self (g.R.Reader.shown c.args.reader.now) (Row c.in-Row.row) c.requires.control c.scan_list.ensures.same c.requires.fits (λ need. rw c.in-Row.is at (c.in_ok-row.ensures.marks need))
 
-pub returns-in-Found-clause-tries : goal.returns-in-Found-clause-tries
-returns-in-Found-clause-tries g c = list_effort (Tries c.args.steps.now c.scan_list.new.steps) c.args.self.now c.scan_list.new.self (g.R.Reader.shown c.args.reader.now) c.requires.control c.scan_list.ensures.same c.scan_list.ensures.tries
+pub returns-in-Row-clause-tries : goal.returns-in-Row-clause-tries
+returns-in-Row-clause-tries g c = list_effort (Tries c.args.steps.now c.scan_list.new.steps) c.args.self.now c.scan_list.new.self (g.R.Reader.shown c.args.reader.now) c.requires.control c.scan_list.ensures.same c.scan_list.ensures.tries
 
-pub returns-in-Found-clause-falls : goal.returns-in-Found-clause-falls
-returns-in-Found-clause-falls g c = list_effort (Falls (Found c.in-Found.row) c.args.steps.now c.scan_list.new.steps) c.args.self.now c.scan_list.new.self (g.R.Reader.shown c.args.reader.now) c.requires.control c.scan_list.ensures.same (rw c.in-Found.is at c.in_ok-row.ensures.falls)
+pub returns-in-Row-clause-falls : goal.returns-in-Row-clause-falls
+returns-in-Row-clause-falls g c = list_effort (Falls (Row c.in-Row.row) c.args.steps.now c.scan_list.new.steps) c.args.self.now c.scan_list.new.self (g.R.Reader.shown c.args.reader.now) c.requires.control c.scan_list.ensures.same (rw c.in-Row.is at c.in_ok-row.ensures.falls)
 
-pub returns-in-Found-clause-may_read : goal.returns-in-Found-clause-may_read
-returns-in-Found-clause-may_read g c = reads_at c.args.self.now FinalList c.args.steps.now c.scan_list.new.steps c.requires.control c.scan_list.ensures.may_read
+pub returns-in-Row-clause-may_read : goal.returns-in-Row-clause-may_read
+returns-in-Row-clause-may_read g c = reads_at c.args.self.now FinalList c.args.steps.now c.scan_list.new.steps c.requires.control c.scan_list.ensures.may_read
 
 pub returns-in-Working-clause-does : goal.returns-in-Working-clause-does
 returns-in-Working-clause-does g c rules stands = list_does rules stands c.args.self.now c.scan_list.new.self (g.R.Reader.shown c.args.reader.now) c.args.steps.now c.scan_list.new.steps Working c.requires.control (rw c.in-Working.is at c.in_ok-row.ensures.fetches) c.scan_list.ensures.same (rw c.in-Working.is at c.in_ok-row.ensures.falls)

@@ -3,7 +3,7 @@ use Rattle.rv_value.proofs.Lists.{on_err}
 use Rattle.rv_judge.specs.declared.events.Control.TheVariants.{FinalTable}
 use Rattle.rv_judge.specs.declared.events.Happening.TheVariants.{FinalEnded}
 use Rattle.rv_scan.specs.Places.{Place}
-use Rattle.rv_scan.specs.declared.skip.Scanned.TheVariants.{Found, Working, End}
+use Rattle.rv_reader.specs.declared.step.Step.TheVariants.{Row, Working, End}
 use Rattle.rv_final.specs.Work.{Falls, Tries}
 use Rattle.rv_final.proofs.Endings.{ended_tries, put_then}
 use Rattle.rv_race.specs.Effort.{effort}
@@ -14,23 +14,23 @@ use Rattle.rv_race.proofs.Finals.{ended_effort, ended_steady, ended_step, ends_d
 use Rattle.rv_race.proofs.Stepped.{only_itself, reads_at}
 use Rattle.rv_race.proofs.race.Race.table_step.Goals as goal
 
-pub returns-in-Found-clause-does : goal.returns-in-Found-clause-does
-returns-in-Found-clause-does g c rules stands = table_does rules stands c.args.self.now c.scan_last.new.self (g.R.Reader.shown c.args.reader.now) c.args.steps.now c.scan_last.new.steps (Found c.in-Found.found) c.requires.control (rw c.in-Found.is at c.in_ok-found.ensures.reads) c.scan_last.ensures.same (rw c.in-Found.is at c.in_ok-found.ensures.turns)
+pub returns-in-Row-clause-does : goal.returns-in-Row-clause-does
+returns-in-Row-clause-does g c rules stands = table_does rules stands c.args.self.now c.scan_last.new.self (g.R.Reader.shown c.args.reader.now) c.args.steps.now c.scan_last.new.steps (Row c.in-Row.found) c.requires.control (rw c.in-Row.is at c.in_ok-found.ensures.reads) c.scan_last.ensures.same (rw c.in-Row.is at c.in_ok-found.ensures.turns)
 
-pub returns-in-Found-clause-steady : goal.returns-in-Found-clause-steady
-returns-in-Found-clause-steady g c = table_steady c.args.self.now c.scan_last.new.self (g.R.Reader.shown c.args.reader.now) c.requires.control c.scan_last.ensures.same c.scan_last.ensures.last c.requires.fits
+pub returns-in-Row-clause-steady : goal.returns-in-Row-clause-steady
+returns-in-Row-clause-steady g c = table_steady c.args.self.now c.scan_last.new.self (g.R.Reader.shown c.args.reader.now) c.requires.control c.scan_last.ensures.same c.scan_last.ensures.last c.requires.fits
 
-pub returns-in-Found-clause-step : goal.returns-in-Found-clause-step
-returns-in-Found-clause-step g c = table_scanned c.args.self.now c.scan_last.new.self (g.R.Reader.shown c.args.reader.now) (Found c.in-Found.found) c.requires.control c.scan_last.ensures.same c.requires.fits (λ need. rw c.in-Found.is at (c.in_ok-found.ensures.marks need))
+pub returns-in-Row-clause-step : goal.returns-in-Row-clause-step
+returns-in-Row-clause-step g c = table_scanned c.args.self.now c.scan_last.new.self (g.R.Reader.shown c.args.reader.now) (Row c.in-Row.found) c.requires.control c.scan_last.ensures.same c.requires.fits (λ need. rw c.in-Row.is at (c.in_ok-found.ensures.marks need))
 
-pub returns-in-Found-clause-tries : goal.returns-in-Found-clause-tries
-returns-in-Found-clause-tries g c = table_effort (Tries c.args.steps.now c.scan_last.new.steps) c.args.self.now c.scan_last.new.self (g.R.Reader.shown c.args.reader.now) c.requires.control c.scan_last.ensures.same c.scan_last.ensures.tries
+pub returns-in-Row-clause-tries : goal.returns-in-Row-clause-tries
+returns-in-Row-clause-tries g c = table_effort (Tries c.args.steps.now c.scan_last.new.steps) c.args.self.now c.scan_last.new.self (g.R.Reader.shown c.args.reader.now) c.requires.control c.scan_last.ensures.same c.scan_last.ensures.tries
 
-pub returns-in-Found-clause-falls : goal.returns-in-Found-clause-falls
-returns-in-Found-clause-falls g c = table_effort (Falls (Found c.in-Found.found) c.args.steps.now c.scan_last.new.steps) c.args.self.now c.scan_last.new.self (g.R.Reader.shown c.args.reader.now) c.requires.control c.scan_last.ensures.same (rw c.in-Found.is at c.in_ok-found.ensures.falls)
+pub returns-in-Row-clause-falls : goal.returns-in-Row-clause-falls
+returns-in-Row-clause-falls g c = table_effort (Falls (Row c.in-Row.found) c.args.steps.now c.scan_last.new.steps) c.args.self.now c.scan_last.new.self (g.R.Reader.shown c.args.reader.now) c.requires.control c.scan_last.ensures.same (rw c.in-Row.is at c.in_ok-found.ensures.falls)
 
-pub returns-in-Found-clause-may_read : goal.returns-in-Found-clause-may_read
-returns-in-Found-clause-may_read g c = reads_at c.args.self.now FinalTable c.args.steps.now c.scan_last.new.steps c.requires.control c.scan_last.ensures.may_read
+pub returns-in-Row-clause-may_read : goal.returns-in-Row-clause-may_read
+returns-in-Row-clause-may_read g c = reads_at c.args.self.now FinalTable c.args.steps.now c.scan_last.new.steps c.requires.control c.scan_last.ensures.may_read
 
 pub returns-in-Working-clause-does : goal.returns-in-Working-clause-does
 returns-in-Working-clause-does g c rules stands = table_does rules stands c.args.self.now c.scan_last.new.self (g.R.Reader.shown c.args.reader.now) c.args.steps.now c.scan_last.new.steps Working c.requires.control (rw c.in-Working.is at c.in_ok-found.ensures.reads) c.scan_last.ensures.same (rw c.in-Working.is at c.in_ok-found.ensures.turns)

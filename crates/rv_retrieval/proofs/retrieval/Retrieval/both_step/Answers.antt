@@ -1,7 +1,7 @@
 use Rattle.std.proofs.Common.{◌∙◌, ap, refl, subst, sym}
 use Rattle.rv_value.proofs.Lists.{on_err}
 use Rattle.rv_retrieval.proofs.Waiting.{steady_moved}
-use Rattle.rv_scan.specs.declared.skip.Scanned.TheVariants.{Working, End}
+use Rattle.rv_reader.specs.declared.step.Step.TheVariants.{Working, End}
 use Rattle.rv_retrieval.proofs.Controls.{ended, ends_fits}
 use Rattle.rv_keylist.specs.Keys.{has_key}
 use Rattle.rv_retrieval.specs.Room.{must_remember}
@@ -16,25 +16,25 @@ pub deliver-requires-clause-fresh : goal.deliver-requires-clause-fresh
 deliver-requires-clause-fresh g c =
     let shown = g.R.Reader.shown c.args.reader.now in
     let v = c.args.self.now in
-    let marks = rw c.in-Found.is at c.in_ok-record.ensures.marks in
-    ap (λ (x : Shape). has_key c.in-Found.record.row.0 x.delivered) c.scan_front.ensures.same ∙ fresh_row v c.scan_front.new.self.front shown c.in-Found.record c.requires.fits c.requires.both marks
+    let marks = rw c.in-Row.is at c.in_ok-record.ensures.marks in
+    ap (λ (x : Shape). has_key c.in-Row.record.row.0 x.delivered) c.scan_front.ensures.same ∙ fresh_row v c.scan_front.new.self.front shown c.in-Row.record c.requires.fits c.requires.both marks
 
 pub deliver-requires-clause-strategy : goal.deliver-requires-clause-strategy
 deliver-requires-clause-strategy g c = ap (λ (x : Shape). must_remember x.strategy) c.scan_front.ensures.same ∙ both_remember c.args.self.now.control c.args.self.now.strategy c.requires.both
 
-pub returns-in-Found-clause-fits : goal.returns-in-Found-clause-fits
-returns-in-Found-clause-fits g c =
+pub returns-in-Row-clause-fits : goal.returns-in-Row-clause-fits
+returns-in-Row-clause-fits g c =
     let shown = g.R.Reader.shown c.args.reader.now in
     let v = c.args.self.now in
-    let marks = rw c.in-Found.is at c.in_ok-record.ensures.marks in
-    both_found_fits v c.scan_front.new.self c.deliver.new.self c.in-Found.record shown c.requires.both c.scan_front.ensures.same c.scan_front.ensures.front c.scan_front.ensures.follows c.deliver.ensures.delivers marks c.requires.fits
+    let marks = rw c.in-Row.is at c.in_ok-record.ensures.marks in
+    both_found_fits v c.scan_front.new.self c.deliver.new.self c.in-Row.record shown c.requires.both c.scan_front.ensures.same c.scan_front.ensures.front c.scan_front.ensures.follows c.deliver.ensures.delivers marks c.requires.fits
 
-pub returns-in-Found-clause-step : goal.returns-in-Found-clause-step
-returns-in-Found-clause-step g c =
+pub returns-in-Row-clause-step : goal.returns-in-Row-clause-step
+returns-in-Row-clause-step g c =
     let shown = g.R.Reader.shown c.args.reader.now in
     let v = c.args.self.now in
-    let marks = rw c.in-Found.is at c.in_ok-record.ensures.marks in
-    both_found_does v c.scan_front.new.self c.deliver.new.self c.in-Found.record shown c.requires.both c.scan_front.ensures.same c.scan_front.ensures.front c.deliver.ensures.delivers marks c.requires.fits
+    let marks = rw c.in-Row.is at c.in_ok-record.ensures.marks in
+    both_found_does v c.scan_front.new.self c.deliver.new.self c.in-Row.record shown c.requires.both c.scan_front.ensures.same c.scan_front.ensures.front c.deliver.ensures.delivers marks c.requires.fits
 
 pub returns-in-Working-clause-fits : goal.returns-in-Working-clause-fits
 returns-in-Working-clause-fits g c =
@@ -67,11 +67,11 @@ returns-in-End-clause-step g c =
     let none = moved_does v mid shown End c.scan_front.ensures.same ahead c.scan_front.ensures.front c.requires.fits (λ h. tt) (rw c.in-End.is at c.in_ok-record.ensures.marks) in
     ended v mid c.go.new.self shown none.0 (front_ends v mid c.go.new.self c.scan_front.ensures.same ahead (c.requires.fits.led ahead) c.go.ensures.same)
 
-pub returns-in-Found-clause-tries : goal.returns-in-Found-clause-tries
-returns-in-Found-clause-tries g c = both_tries c.args.self.now c.scan_front.new.self c.deliver.new.self (g.R.Reader.shown c.args.reader.now) c.args.steps.now c.scan_front.new.steps c.deliver.new.self.delivered c.deliver.new.self.control c.deliver.new.self.trace c.requires.both c.scan_front.ensures.same c.deliver.ensures.delivers.same c.scan_front.ensures.tries
+pub returns-in-Row-clause-tries : goal.returns-in-Row-clause-tries
+returns-in-Row-clause-tries g c = both_tries c.args.self.now c.scan_front.new.self c.deliver.new.self (g.R.Reader.shown c.args.reader.now) c.args.steps.now c.scan_front.new.steps c.deliver.new.self.delivered c.deliver.new.self.control c.deliver.new.self.trace c.requires.both c.scan_front.ensures.same c.deliver.ensures.delivers.same c.scan_front.ensures.tries
 
-pub returns-in-Found-clause-falls : goal.returns-in-Found-clause-falls
-returns-in-Found-clause-falls g c = both_falls c.args.self.now c.scan_front.new.self c.deliver.new.self (g.R.Reader.shown c.args.reader.now) c.deliver.new.self.delivered c.deliver.new.self.control c.deliver.new.self.trace c.requires.both c.scan_front.ensures.same c.deliver.ensures.delivers.same (rw c.in-Found.is at c.in_ok-record.ensures.falls)
+pub returns-in-Row-clause-falls : goal.returns-in-Row-clause-falls
+returns-in-Row-clause-falls g c = both_falls c.args.self.now c.scan_front.new.self c.deliver.new.self (g.R.Reader.shown c.args.reader.now) c.deliver.new.self.delivered c.deliver.new.self.control c.deliver.new.self.trace c.requires.both c.scan_front.ensures.same c.deliver.ensures.delivers.same (rw c.in-Row.is at c.in_ok-record.ensures.falls)
 
 pub returns-in-End-clause-tries : goal.returns-in-End-clause-tries
 returns-in-End-clause-tries g c = both_tries c.args.self.now c.scan_front.new.self c.go.new.self (g.R.Reader.shown c.args.reader.now) c.args.steps.now c.scan_front.new.steps c.scan_front.new.self.delivered _ c.go.new.self.trace c.requires.both c.scan_front.ensures.same c.go.ensures.same c.scan_front.ensures.tries

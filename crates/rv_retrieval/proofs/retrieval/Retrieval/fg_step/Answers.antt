@@ -1,121 +1,85 @@
-use Rattle.std.proofs.Common.{◌+◌, ◌≤◌, ◌∙◌, ap, rules, subst, sym}
+use Rattle.std.proofs.Common.{◌∙◌, ap, subst, sym}
 use Rattle.rv_final.specs.Work.{Tries}
 use Rattle.rv_scan.specs.Fronts.{SameFront}
 use Rattle.rv_retrieval.specs.Effort.{Awaiting, effort}
 use Rattle.rv_retrieval.specs.Shape.{Shape}
 use Rattle.rv_retrieval.specs.Short.{Settled, fetches_left}
-use Rattle.rv_retrieval.proofs.AtOnce.{gives_step}
-use Rattle.rv_retrieval.proofs.Counted.{counted_rise}
+use Rattle.rv_retrieval.proofs.Counted.{counted_rise, course_on, does_if, ends_if, fewer_if, left_if, records_if, spends_if, step_if, still_if, tells_if}
 use Rattle.rv_retrieval.proofs.Switching.{trace_keeps}
-use Rattle.rv_retrieval.proofs.Tellings.{counted_tells, steps_tells}
-use Rattle.rv_retrieval.proofs.Waiting.{counted_course, fewer_fetches, only_counted}
+use Rattle.rv_retrieval.proofs.Tellings.{counted_tells}
 use Rattle.rv_retrieval.proofs.retrieval.Retrieval.fg_step.Goals as goal
 
-pub returns-in-Ok-clause-step : goal.returns-in-Ok-clause-step
-returns-in-Ok-clause-step g c =
+pub returns-clause-counts : goal.returns-clause-counts
+returns-clause-counts g c = counted_rise c.args.self.now c.step-stepped.new.self c.count.new.self _ _ _ _ c.counts-before.ensures c.counts.ensures c.step-stepped.ensures.steady.counts c.count.ensures
+
+pub returns-clause-query : goal.returns-clause-query
+returns-clause-query g c = ap (λ (x : Shape). x.query) c.count.ensures ∙ c.step-stepped.ensures.steady.query
+
+pub returns-clause-fits : goal.returns-clause-fits
+returns-clause-fits g c = (trace_keeps c.step-stepped.new.self c.count.new.self _ c.count.ensures).fits (g.R.Reader.shown c.args.reader.now) c.step-stepped.ensures.fits
+
+pub returns-clause-step : goal.returns-clause-step
+returns-clause-step g c =
     let shown = g.R.Reader.shown c.args.reader.now in
     let mid = c.step-stepped.new.self in
-    gives_step c.args.self.now mid c.count.new.self shown c.in-Ok.scanned c.answer.result c.in-Ok.ensures.step ((trace_keeps mid c.count.new.self _ c.count.ensures).rest shown c.step-stepped.ensures.fits) c.answer.ensures
+    step_if c.step-stepped.result c.args.self.now mid c.count.new.self shown ((trace_keeps mid c.count.new.self _ c.count.ensures).rest shown c.step-stepped.ensures.fits) c.step-stepped.ensures.step
 
-pub returns-in-Err-clause-err : goal.returns-in-Err-clause-err
-returns-in-Err-clause-err g c =
+pub returns-clause-ends : goal.returns-clause-ends
+returns-clause-ends g c = ends_if c.step-stepped.result c.step-stepped.new.self c.count.new.self _ c.count.ensures c.step-stepped.ensures.ends
+
+pub returns-clause-again : goal.returns-clause-again
+returns-clause-again g c = c.step-stepped.ensures.again
+
+pub returns-clause-err : goal.returns-clause-err
+returns-clause-err g c =
     let shown = g.R.Reader.shown c.args.reader.now in
     let mid = c.step-stepped.new.self in
-    (trace_keeps mid c.count.new.self _ c.count.ensures).rest shown c.step-stepped.ensures.fits ∙ c.in-Err.ensures.err
+    left_if c.step-stepped.result c.args.self.now mid c.count.new.self shown ((trace_keeps mid c.count.new.self _ c.count.ensures).rest shown c.step-stepped.ensures.fits) c.step-stepped.ensures.err
 
-pub returns-in-Ok-clause-tells : goal.returns-in-Ok-clause-tells
-returns-in-Ok-clause-tells g c t =
-    let shown = g.R.Reader.shown c.args.reader.now in
-    let mid = c.step-stepped.new.self in
-    counted_tells mid c.count.new.self _ _ c.count.ensures (steps_tells _ _ _ shown c.args.steps.now c.step-stepped.new.steps c.in-Ok.scanned c.args.self.now mid c.requires.fits.led (c.in-Ok.ensures.does t.way) t)
+pub returns-clause-does : goal.returns-clause-does
+returns-clause-does g c t = does_if c.step-stepped.result _ _ _ (g.R.Reader.shown c.args.reader.now) c.args.steps.now c.step-stepped.new.steps c.args.self.now c.step-stepped.new.self c.count.new.self (rw c.counts.ensures at rw c.counts-before.ensures at c.count.ensures) (c.step-stepped.ensures.does t.way) (c.step-stepped.ensures.reads t.way)
 
-pub returns-in-Ok-clause-records : goal.returns-in-Ok-clause-records
-returns-in-Ok-clause-records g c settled = subst (λ (x : Shape). c.step-stepped.new.steps.records + fetches_left x (g.R.Reader.shown c.args.reader.now) ≤ c.args.steps.now.records + fetches_left c.args.self.now (g.R.Reader.shown c.args.reader.now)) (sym c.count.ensures) (c.in-Ok.ensures.records settled)
+pub returns-clause-quiet : goal.returns-clause-quiet
+returns-clause-quiet g c = c.step-stepped.ensures.quiet
 
-pub returns-in-Ok-clause-does : goal.returns-in-Ok-clause-does
-returns-in-Ok-clause-does g c t = record {
-  scanned = c.in-Ok.scanned;
-  stepped = c.step-stepped.new.self;
-  answers = c.answer.ensures;
-  does = c.in-Ok.ensures.does t.way;
-  reads = c.in-Ok.ensures.reads t.way;
-  counts = search rules;
-}
+pub returns-clause-may_read : goal.returns-clause-may_read
+returns-clause-may_read g c t = c.step-stepped.ensures.may_read t.way
 
-pub returns-in-Ok-clause-may_read : goal.returns-in-Ok-clause-may_read
-returns-in-Ok-clause-may_read g c t = c.step-stepped.ensures.may_read t.way
+pub returns-clause-still : goal.returns-clause-still
+returns-clause-still g c = still_if c.step-stepped.result c.args.self.now c.step-stepped.new.self c.count.new.self _ c.count.ensures c.step-stepped.ensures.still
 
-pub returns-in-Ok-clause-query : goal.returns-in-Ok-clause-query
-returns-in-Ok-clause-query g c = ap (λ (x : Shape). x.query) c.count.ensures ∙ c.step-stepped.ensures.steady.query
+pub returns-clause-fewer : goal.returns-clause-fewer
+returns-clause-fewer g c = fewer_if c.step-stepped.result c.args.self.now c.count.new.self (g.R.Reader.shown c.args.reader.now) (returns-clause-still g c)
 
-pub returns-in-Ok-clause-fits : goal.returns-in-Ok-clause-fits
-returns-in-Ok-clause-fits g c = (trace_keeps c.step-stepped.new.self c.count.new.self _ c.count.ensures).fits (g.R.Reader.shown c.args.reader.now) c.step-stepped.ensures.fits
+pub returns-clause-front : goal.returns-clause-front
+returns-clause-front g c = subst (λ (x : Shape). SameFront c.args.self.now.front x.front) (sym c.count.ensures) c.step-stepped.ensures.steady.front
 
-pub returns-in-Ok-clause-front : goal.returns-in-Ok-clause-front
-returns-in-Ok-clause-front g c = subst (λ (x : Shape). SameFront c.args.self.now.front x.front) (sym c.count.ensures) c.step-stepped.ensures.steady.front
+pub returns-clause-stays : goal.returns-clause-stays
+returns-clause-stays g c = c.step-stepped.ensures.stays
 
-pub returns-in-Ok-clause-stays : goal.returns-in-Ok-clause-stays
-returns-in-Ok-clause-stays g c = c.step-stepped.ensures.stays
+pub returns-clause-course : goal.returns-clause-course
+returns-clause-course g c = course_on c.step-stepped.result c.args.self.now c.step-stepped.new.self c.count.new.self _ _ c.count.ensures c.step-stepped.ensures.course
 
-pub returns-in-Ok-clause-tries : goal.returns-in-Ok-clause-tries
-returns-in-Ok-clause-tries g c = subst (λ (x : Shape). Tries c.args.steps.now c.step-stepped.new.steps (effort c.args.self.now (g.R.Reader.shown c.args.reader.now)) (effort x (g.R.Reader.shown c.args.reader.now))) (sym c.count.ensures) c.step-stepped.ensures.tries
+pub returns-clause-tells : goal.returns-clause-tells
+returns-clause-tells g c t = counted_tells c.step-stepped.new.self c.count.new.self _ _ c.count.ensures (tells_if c.step-stepped.result _ _ _ (g.R.Reader.shown c.args.reader.now) c.args.steps.now c.step-stepped.new.steps c.args.self.now c.step-stepped.new.self c.requires.fits.led (c.step-stepped.ensures.does t.way) c.step-stepped.ensures.course t)
 
-pub returns-in-Ok-clause-awaiting : goal.returns-in-Ok-clause-awaiting
-returns-in-Ok-clause-awaiting g c a = subst Awaiting (sym c.count.ensures) (let w = c.step-stepped.ensures.steady.awaiting a in record { way = w.way; both = w.both })
+pub returns-clause-tries : goal.returns-clause-tries
+returns-clause-tries g c = subst (λ (x : Shape). Tries c.args.steps.now c.step-stepped.new.steps (effort c.args.self.now (g.R.Reader.shown c.args.reader.now)) (effort x (g.R.Reader.shown c.args.reader.now))) (sym c.count.ensures) c.step-stepped.ensures.tries
 
-pub returns-in-Ok-clause-settled : goal.returns-in-Ok-clause-settled
-returns-in-Ok-clause-settled g c settled = subst Settled (sym c.count.ensures) (let s = c.step-stepped.ensures.settled settled in record { over = s.over; sorted = s.sorted })
+pub returns-clause-spends : goal.returns-clause-spends
+returns-clause-spends g c a = spends_if c.step-stepped.result c.args.steps.now c.step-stepped.new.steps c.args.self.now c.step-stepped.new.self c.count.new.self _ (g.R.Reader.shown c.args.reader.now) c.count.ensures c.step-stepped.ensures.tries (c.step-stepped.ensures.falls a)
 
-pub returns-in-Ok-clause-unasked : goal.returns-in-Ok-clause-unasked
-returns-in-Ok-clause-unasked g c = c.step-stepped.ensures.unasked
+pub returns-clause-awaiting : goal.returns-clause-awaiting
+returns-clause-awaiting g c a = subst Awaiting (sym c.count.ensures) (let w = c.step-stepped.ensures.steady.awaiting a in record { way = w.way; both = w.both })
 
-pub returns-in-Ok-clause-pages : goal.returns-in-Ok-clause-pages
-returns-in-Ok-clause-pages g c = c.step-stepped.ensures.pages
+pub returns-clause-settled : goal.returns-clause-settled
+returns-clause-settled g c settled = subst Settled (sym c.count.ensures) (let s = c.step-stepped.ensures.settled settled in record { over = s.over; sorted = s.sorted })
 
-pub returns-in-Err-clause-query : goal.returns-in-Err-clause-query
-returns-in-Err-clause-query g c = ap (λ (x : Shape). x.query) c.count.ensures ∙ c.step-stepped.ensures.steady.query
+pub returns-clause-unasked : goal.returns-clause-unasked
+returns-clause-unasked g c = c.step-stepped.ensures.unasked
 
-pub returns-in-Err-clause-fits : goal.returns-in-Err-clause-fits
-returns-in-Err-clause-fits g c = (trace_keeps c.step-stepped.new.self c.count.new.self _ c.count.ensures).fits (g.R.Reader.shown c.args.reader.now) c.step-stepped.ensures.fits
+pub returns-clause-pages : goal.returns-clause-pages
+returns-clause-pages g c = c.step-stepped.ensures.pages
 
-pub returns-in-Err-clause-front : goal.returns-in-Err-clause-front
-returns-in-Err-clause-front g c = subst (λ (x : Shape). SameFront c.args.self.now.front x.front) (sym c.count.ensures) c.step-stepped.ensures.steady.front
-
-pub returns-in-Err-clause-stays : goal.returns-in-Err-clause-stays
-returns-in-Err-clause-stays g c = c.step-stepped.ensures.stays
-
-pub returns-in-Err-clause-tries : goal.returns-in-Err-clause-tries
-returns-in-Err-clause-tries g c = subst (λ (x : Shape). Tries c.args.steps.now c.step-stepped.new.steps (effort c.args.self.now (g.R.Reader.shown c.args.reader.now)) (effort x (g.R.Reader.shown c.args.reader.now))) (sym c.count.ensures) c.step-stepped.ensures.tries
-
-pub returns-in-Err-clause-awaiting : goal.returns-in-Err-clause-awaiting
-returns-in-Err-clause-awaiting g c a = subst Awaiting (sym c.count.ensures) (let w = c.step-stepped.ensures.steady.awaiting a in record { way = w.way; both = w.both })
-
-pub returns-in-Err-clause-settled : goal.returns-in-Err-clause-settled
-returns-in-Err-clause-settled g c settled = subst Settled (sym c.count.ensures) (let s = c.step-stepped.ensures.settled settled in record { over = s.over; sorted = s.sorted })
-
-pub returns-in-Err-clause-unasked : goal.returns-in-Err-clause-unasked
-returns-in-Err-clause-unasked g c = c.step-stepped.ensures.unasked
-
-pub returns-in-Err-clause-pages : goal.returns-in-Err-clause-pages
-returns-in-Err-clause-pages g c = c.step-stepped.ensures.pages
-
-pub returns-in-Err-clause-may_read : goal.returns-in-Err-clause-may_read
-returns-in-Err-clause-may_read g c t = c.step-stepped.ensures.may_read t.way
-
-pub returns-in-Err-clause-quiet : goal.returns-in-Err-clause-quiet
-returns-in-Err-clause-quiet g c = c.in-Err.ensures.quiet
-
-pub returns-in-Err-clause-still : goal.returns-in-Err-clause-still
-returns-in-Err-clause-still g c = only_counted c.args.self.now c.step-stepped.new.self c.count.new.self _ c.count.ensures c.in-Err.ensures.still
-
-pub returns-in-Err-clause-fewer : goal.returns-in-Err-clause-fewer
-returns-in-Err-clause-fewer g c = fewer_fetches c.args.self.now c.count.new.self (g.R.Reader.shown c.args.reader.now) (only_counted c.args.self.now c.step-stepped.new.self c.count.new.self _ c.count.ensures c.in-Err.ensures.still)
-
-pub returns-in-Err-clause-course : goal.returns-in-Err-clause-course
-returns-in-Err-clause-course g c = counted_course c.args.self.now c.step-stepped.new.self c.count.new.self _ _ c.count.ensures c.in-Err.ensures.course
-
-pub returns-in-Ok-clause-counts : goal.returns-in-Ok-clause-counts
-returns-in-Ok-clause-counts g c = counted_rise c.args.self.now c.step-stepped.new.self c.count.new.self _ _ _ _ c.counts-before.ensures c.counts.ensures c.step-stepped.ensures.steady.counts c.count.ensures
-
-pub returns-in-Err-clause-counts : goal.returns-in-Err-clause-counts
-returns-in-Err-clause-counts g c = counted_rise c.args.self.now c.step-stepped.new.self c.count.new.self _ _ _ _ c.counts-before.ensures c.counts.ensures c.step-stepped.ensures.steady.counts c.count.ensures
+pub returns-clause-records : goal.returns-clause-records
+returns-clause-records g c settled = records_if c.step-stepped.result c.step-stepped.new.steps.records c.args.steps.now.records (fetches_left c.args.self.now (g.R.Reader.shown c.args.reader.now)) c.step-stepped.new.self c.count.new.self _ (g.R.Reader.shown c.args.reader.now) c.count.ensures (c.step-stepped.ensures.records settled)

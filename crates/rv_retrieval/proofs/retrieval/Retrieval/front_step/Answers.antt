@@ -3,16 +3,16 @@ use Rattle.rv_value.proofs.Lists.{on_err}
 use Rattle.rv_retrieval.specs.Shape.{RetrievalFits, Shape}
 use Rattle.rv_retrieval.specs.Short.{Settled}
 use Rattle.rv_retrieval.proofs.Waiting.{steady_moved}
-use Rattle.rv_scan.specs.declared.skip.Scanned.TheVariants.{Found, Working, End}
+use Rattle.rv_reader.specs.declared.step.Step.TheVariants.{Row, Working, End}
 use Rattle.rv_retrieval.proofs.Controls.{ended, ends_fits}
 use Rattle.rv_retrieval.proofs.Delivering.{forgotten, front_ends, moved_does, moved_fits}
 use Rattle.rv_retrieval.proofs.retrieval.Retrieval.front_step.Goals as goal
 
-pub returns-in-Found-clause-fits : goal.returns-in-Found-clause-fits
-returns-in-Found-clause-fits g c = moved_fits c.args.self.now c.scan_front.new.self (g.R.Reader.shown c.args.reader.now) c.scan_front.ensures.same c.scan_front.ensures.front c.scan_front.ensures.follows (forgotten c.args.self.now c.requires.forgets) c.requires.fits
+pub returns-in-Row-clause-fits : goal.returns-in-Row-clause-fits
+returns-in-Row-clause-fits g c = moved_fits c.args.self.now c.scan_front.new.self (g.R.Reader.shown c.args.reader.now) c.scan_front.ensures.same c.scan_front.ensures.front c.scan_front.ensures.follows (forgotten c.args.self.now c.requires.forgets) c.requires.fits
 
-pub returns-in-Found-clause-step : goal.returns-in-Found-clause-step
-returns-in-Found-clause-step g c = moved_does c.args.self.now c.scan_front.new.self (g.R.Reader.shown c.args.reader.now) (Found c.in-Found.record) c.scan_front.ensures.same c.requires.front c.scan_front.ensures.front c.requires.fits (rw c.in-Found.is at c.in_ok-record.ensures.least) (rw c.in-Found.is at c.in_ok-record.ensures.marks)
+pub returns-in-Row-clause-step : goal.returns-in-Row-clause-step
+returns-in-Row-clause-step g c = moved_does c.args.self.now c.scan_front.new.self (g.R.Reader.shown c.args.reader.now) (Row c.in-Row.record) c.scan_front.ensures.same c.requires.front c.scan_front.ensures.front c.requires.fits (rw c.in-Row.is at c.in_ok-record.ensures.least) (rw c.in-Row.is at c.in_ok-record.ensures.marks)
 
 pub returns-in-Working-clause-fits : goal.returns-in-Working-clause-fits
 returns-in-Working-clause-fits g c = moved_fits c.args.self.now c.scan_front.new.self (g.R.Reader.shown c.args.reader.now) c.scan_front.ensures.same c.scan_front.ensures.front c.scan_front.ensures.follows (forgotten c.args.self.now c.requires.forgets) c.requires.fits
@@ -35,11 +35,11 @@ returns-in-End-clause-step g c =
     let none = moved_does v mid shown End c.scan_front.ensures.same c.requires.front c.scan_front.ensures.front c.requires.fits (λ h. tt) (rw c.in-End.is at c.in_ok-record.ensures.marks) in
     ended v mid c.go.new.self shown none.0 (front_ends v mid c.go.new.self c.scan_front.ensures.same c.requires.front (c.requires.fits.led c.requires.front) c.go.ensures.same)
 
-pub returns-in-Found-clause-steady : goal.returns-in-Found-clause-steady
-returns-in-Found-clause-steady g c = steady_moved c.args.self.now c.scan_front.new.self c.scan_front.ensures.same c.scan_front.ensures.front
+pub returns-in-Row-clause-steady : goal.returns-in-Row-clause-steady
+returns-in-Row-clause-steady g c = steady_moved c.args.self.now c.scan_front.new.self c.scan_front.ensures.same c.scan_front.ensures.front
 
-pub returns-in-Found-clause-settled : goal.returns-in-Found-clause-settled
-returns-in-Found-clause-settled g c settled = subst Settled (sym c.scan_front.ensures.same) (record { over = settled.over; sorted = settled.sorted })
+pub returns-in-Row-clause-settled : goal.returns-in-Row-clause-settled
+returns-in-Row-clause-settled g c settled = subst Settled (sym c.scan_front.ensures.same) (record { over = settled.over; sorted = settled.sorted })
 
 pub returns-in-Working-clause-steady : goal.returns-in-Working-clause-steady
 returns-in-Working-clause-steady g c = steady_moved c.args.self.now c.scan_front.new.self c.scan_front.ensures.same c.scan_front.ensures.front
@@ -53,8 +53,8 @@ returns-in_err-record-clause-steady g c = steady_moved c.args.self.now c.scan_fr
 pub returns-in_err-record-clause-settled : goal.returns-in_err-record-clause-settled
 returns-in_err-record-clause-settled g c settled = subst Settled (sym c.scan_front.ensures.same) (record { over = settled.over; sorted = settled.sorted })
 
-pub returns-in-Found-clause-does : goal.returns-in-Found-clause-does
-returns-in-Found-clause-does g c = c.scan_front.ensures.same
+pub returns-in-Row-clause-does : goal.returns-in-Row-clause-does
+returns-in-Row-clause-does g c = c.scan_front.ensures.same
 
 pub returns-in-Working-clause-does : goal.returns-in-Working-clause-does
 returns-in-Working-clause-does g c = c.scan_front.ensures.same
@@ -65,11 +65,11 @@ returns-in_err-record-clause-fits g c = subst (λ (x : Shape). RetrievalFits x (
 pub returns-in_err-record-clause-err : goal.returns-in_err-record-clause-err
 returns-in_err-record-clause-err g c = on_err _ _ c.in_err-record.ensures.err
 
-pub returns-in-Found-clause-may_read : goal.returns-in-Found-clause-may_read
-returns-in-Found-clause-may_read g c = c.scan_front.ensures.may_read
+pub returns-in-Row-clause-may_read : goal.returns-in-Row-clause-may_read
+returns-in-Row-clause-may_read g c = c.scan_front.ensures.may_read
 
-pub returns-in-Found-clause-pages : goal.returns-in-Found-clause-pages
-returns-in-Found-clause-pages g c = c.scan_front.ensures.pages
+pub returns-in-Row-clause-pages : goal.returns-in-Row-clause-pages
+returns-in-Row-clause-pages g c = c.scan_front.ensures.pages
 
 pub returns-in-Working-clause-may_read : goal.returns-in-Working-clause-may_read
 returns-in-Working-clause-may_read g c = c.scan_front.ensures.may_read
@@ -89,11 +89,11 @@ returns-in_err-record-clause-may_read g c = c.scan_front.ensures.may_read
 pub returns-in_err-record-clause-pages : goal.returns-in_err-record-clause-pages
 returns-in_err-record-clause-pages g c = c.scan_front.ensures.pages
 
-pub returns-in-Found-clause-reads : goal.returns-in-Found-clause-reads
-returns-in-Found-clause-reads g c = rw c.in-Found.is at c.in_ok-record.ensures.reads
+pub returns-in-Row-clause-reads : goal.returns-in-Row-clause-reads
+returns-in-Row-clause-reads g c = rw c.in-Row.is at c.in_ok-record.ensures.reads
 
-pub returns-in-Found-clause-fetches : goal.returns-in-Found-clause-fetches
-returns-in-Found-clause-fetches g c = rw c.in-Found.is at c.in_ok-record.ensures.fetches
+pub returns-in-Row-clause-fetches : goal.returns-in-Row-clause-fetches
+returns-in-Row-clause-fetches g c = rw c.in-Row.is at c.in_ok-record.ensures.fetches
 
 pub returns-in-Working-clause-reads : goal.returns-in-Working-clause-reads
 returns-in-Working-clause-reads g c = rw c.in-Working.is at c.in_ok-record.ensures.reads

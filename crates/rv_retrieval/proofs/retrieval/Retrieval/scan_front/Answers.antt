@@ -4,7 +4,8 @@ use Rattle.std.specs.Option.{option_copied}
 use Rattle.rv_scan.specs.Alongs.{FetchesDue, Follows}
 use Rattle.rv_scan.specs.Due.{Skipped}
 use Rattle.rv_jscan.specs.Joint.{keys_of}
-use Rattle.rv_scan.specs.declared.skip.Scanned.{Scanned}
+use Rattle.rv_reader.specs.declared.step.Step.{Step}
+use Rattle.rv_value.specs.declared.record.Record.{Record}
 use Rattle.rv_scan.specs.Fronts.{SameFront, walk_of, front_fetches}
 use Rattle.rv_retrieval.specs.Shape.{Shape, is_sorted}
 use Rattle.rv_retrieval.proofs.Fronting.{FrontStep, front_marks, own_entries, own_follows, skips_by, walk_reads}
@@ -41,7 +42,7 @@ returns-clause-fetches g c =
     let v = c.args.self.now in
     let hides = subst (λ (x : Shape). option_copied c.hiding.result ≡ (if is_sorted x.strategy then option_copied c.list.result else None)) c.self.view_is c.hiding.ensures in
     let keys = subst (λ (x : Shape). keys_of (option_copied c.list.result) ≡ x.joint.list) c.self.view_is c.list.ensures.keys in
-    let fetches = subst (λ (x : Shape). IfOk c.step.result (λ (s : Scanned). FetchesDue (record { delivered = None; list = option_copied c.hiding.result }) x.query.only (shown.rows x.front.fetching.table (walk_of x.front).snap) s c.args.steps.now c.step.new.steps)) c.self.view_is c.step.ensures.fetches in
+    let fetches = subst (λ (x : Shape). IfOk c.step.result (λ (s : Step Record). FetchesDue (record { delivered = None; list = option_copied c.hiding.result }) x.query.only (shown.rows x.front.fetching.table (walk_of x.front).snap) s c.args.steps.now c.step.new.steps)) c.self.view_is c.step.ensures.fetches in
     walk_reads c.step.result v shown (option_copied c.hiding.result) (option_copied c.list.result) c.args.steps.now c.step.new.steps c.requires.fits c.requires.led hides keys fetches
 
 pub returns-clause-records : goal.returns-clause-records
