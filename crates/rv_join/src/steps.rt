@@ -1,4 +1,4 @@
-//! The calls on a plan: steps, and the pieces of its retrievals.
+//! The calls on a plan whose reads are counted: steps, and taking a piece.
 ghost use Rattle.std.specs.Prelude.{◌≡◌, None, Ok, IfOk, OnErr, OnOk};
 ghost use Rattle.rv_access.specs.Accesses.{SamePlans, held_of};
 ghost use Rattle.rv_access.specs.Stepping.{SameCourse};

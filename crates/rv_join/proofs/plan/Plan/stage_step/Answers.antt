@@ -1,5 +1,6 @@
-use Rattle.std.proofs.Common.{refl, sym, ◌∙◌}
+use Rattle.std.proofs.Common.{IfOk, refl, subst, sym, ◌∙◌}
 use Rattle.rv_value.proofs.Lists.{on_ok}
+use Rattle.rv_join.specs.Alone.{PlanSpends, plan_effort}
 use Rattle.rv_join.specs.Plans.{Planned}
 use Rattle.rv_join.proofs.OneItem.{fetches_same, given_spends, moved_spends}
 use Rattle.rv_join.proofs.Planning.{found_failed, found_fits, found_step, given_fits, given_step, not_given}
@@ -62,6 +63,11 @@ returns-in-Giving-clause-step g c = given_step c.give_next.result (g.R.Reader.sh
 
 pub returns-in-Giving-clause-holds : goal.returns-in-Giving-clause-holds
 returns-in-Giving-clause-holds g c = given_fits c.give_next.result (g.R.Reader.shown c.args.reader.now) c.args.self.now c.give_next.new.self c.requires.fits (sym c.stage.ensures ∙ c.in-Giving.is) c.give_next.ensures.given c.give_next.ensures.err c.give_next.ensures.same
+
+pub returns-in-Giving-clause-spends : goal.returns-in-Giving-clause-spends
+returns-in-Giving-clause-spends g c = λ one.
+    (let shown = g.R.Reader.shown c.args.reader.now in
+    subst (λ (p : Planned). IfOk c.give_next.result (λ m. PlanSpends m c.args.steps.now c.args.steps.now (plan_effort shown c.args.self.now) (plan_effort shown p))) (sym c.give_next.ensures.same) (given_spends c.give_next.result _ _ c.give_next.ensures.given c.args.steps.now (plan_effort shown c.args.self.now)))
 
 pub returns-in-Giving-clause-fetches : goal.returns-in-Giving-clause-fetches
 returns-in-Giving-clause-fetches g c = λ one. on_ok c.give_next.result _ (fetches_same (g.R.Reader.shown c.args.reader.now) c.args.steps.now c.args.self.now c.give_next.new.self c.give_next.ensures.same)
