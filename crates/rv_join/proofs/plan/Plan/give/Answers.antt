@@ -5,7 +5,7 @@ use Rattle.rv_join.proofs.Keeping.{given_fits, given_none, gives_piece, stays_st
 use Rattle.rv_join.proofs.plan.Plan.give.Goals as goal
 
 pub give-requires : goal.give-requires
-give-requires g c = record { open = c.waits-at.ensures.open }
+give-requires g c = record { «open» = c.waits-at.ensures.open }
 
 pub returns-clause-given : goal.returns-clause-given
 returns-clause-given g c =
