@@ -1,5 +1,5 @@
 #!/usr/bin/env python3
-"""Compares the pages with the repository: README.md, docs/*.md and crates/*/README.md.
+"""Compares the pages with the repository: README.md, CONTRIBUTING.md, docs/*.md and crates/*/README.md.
 
 Fails where a page
   - links to a file, or names a path in backticks, that is not there (a path may begin at the top, or in a
@@ -8,7 +8,8 @@ Fails where a page
   - says "`x` of rv_y", "`x` of `path`" or "`x` in `path`" where rv_y or the file has no x;
   - says in a crate's page that the program does not use the crate, although crates.txt says that it does;
   - has a block ```excerpt FILE that does not stand in FILE as it is;
-or where a crate has no page, or one of fewer than 10 or more than 60 lines, or README.md is over 8,192 bytes.
+or where a crate has no page, or one of fewer than 10 or more than 60 lines, or README.md is over 8,192 bytes,
+or docs/ARCHITECTURE.md over 9,000.
 Every sentence with "yet", "not built", "no clause" or "to come" is listed with --yet, to be read again.
 
   tools/check_pages.py [--yet] [--coming FILE ..]    FILE is a page that is being written elsewhere
@@ -27,6 +28,8 @@ LINK = re.compile(r"\]\(([^)#\s]+)[^)]*\)")
 NAME = re.compile(r"^[A-Za-z_]\w*(?:(?:::|\.)[A-Za-z_]\w*)*(?:\(\))?!?$")
 WORD = re.compile(r"[A-Za-z_]\w*")
 DEFINED = re.compile(r"^(?:(?:pub|abbrev|unfoldable|record|lemma|where)\s+)*([A-Za-z_]\w*)", re.M)
+TOP = ("README.md", "CONTRIBUTING.md")
+MOST = {"README.md": 8192, "docs/ARCHITECTURE.md": 9000}  # bytes of a page
 EXTENSIONS = (".rt", ".antt", ".py", ".md", ".sh", ".edit", ".txt", ".transcript")
 LIST = r"((?:`[^`\n]+`(?:, | and |, and )?)+)"
 OF_CRATE = re.compile(LIST + r" (?:of|in) `?([a-z]+_[a-z]+)`?(?![\w/:.])")
@@ -61,6 +64,7 @@ class Repository:
             self.by_crate[crate] = {crate} | self.words_below(os.path.join("crates", crate), (".rt", ".antt", ".edit"))
             self.words |= self.by_crate[crate]
         self.words |= self.words_below("tools", (".py", ".sh")) | self.words_below("examples", None)
+        self.words.update(os.listdir(top))
         for kit in self.uses.values():
             self.words.update(kit)
 
@@ -91,7 +95,7 @@ class Repository:
         return words
 
     def pages(self):
-        names = ["README.md"] + sorted(os.path.relpath(p, self.top) for p in glob.glob(os.path.join(self.top, "docs", "*.md")))
+        names = [name for name in TOP if os.path.isfile(os.path.join(self.top, name))] + sorted(os.path.relpath(p, self.top) for p in glob.glob(os.path.join(self.top, "docs", "*.md")))
         return names + ["crates/%s/README.md" % c for c in self.crates
                         if os.path.isfile(os.path.join(self.top, "crates", c, "README.md"))]
 
@@ -99,7 +103,7 @@ class Repository:
         """The files that a path in a page may mean. A name without a folder is some file of the crate's."""
         name = name.rstrip("/").replace("NAME", "*")
         folders = [self.top, os.path.dirname(os.path.join(self.top, page))]
-        if page.startswith("docs/") or page == "README.md":
+        if page.startswith("docs/") or page in TOP:
             if name.split("/")[0] in ("src", "specs", "proofs", "must-fail", "mutants"):
                 folders += [os.path.join(self.top, "crates", c) for c in self.crates]
         if "*" in name:
@@ -191,8 +195,9 @@ def check_page(repository, page, coming):
         for number, sentence in sentences(lines):
             if re.search(r"program does not use it\b", sentence) and crate in repository.below("rv_cli"):
                 yield number, "the program does use %s" % crate
-    if page == "README.md" and len(text.encode()) > 8192:
-        yield 1, "%d bytes, at most 8,192 are wanted" % len(text.encode())
+    most = MOST.get(page)
+    if most and len(text.encode()) > most:
+        yield 1, "%d bytes, at most %s are wanted" % (len(text.encode()), format(most, ","))
 
 
 def check(repository, coming):
@@ -227,6 +232,8 @@ def self_test():
         lines = "\n\n" * 6
         write("crates/rv_a/README.md", "# rv_a\n`good` in `src/lib.rt`. The program does not use it.\n" + lines + "end\n")
         write("crates/rv_b/README.md", "# rv_b\nIt is not proved yet. `src/gone.rt`\n")
+        write("HELD", "")
+        write("CONTRIBUTING.md", "`HELD` stays, `lacking`, `src/lib.rt`\n")
         write("README.md", "`good` of rv_a, `good` and `other` of rv_b, `nothing`, `docs/NO.md`, [x](docs/COMING.md) `specs/X.antt`\n"
               "```\n`unseen`\n```\n```excerpt crates.txt\nrv_b:\nrv_c:\n```\n```excerpt crates.txt\nrv_b:\n```\n`other` of `specs/X.antt` `kept` of `specs/X.antt` `rt check`\n" + "x" * 8200)
         found = sorted("%s %s" % (p, w) for p, _, w in check(Repository(top), {"docs/COMING.md"}))
@@ -237,6 +244,7 @@ def self_test():
             "crates/rv_b/README.md 2 lines: a crate's page has 10 to 60",
             "crates/rv_b/README.md `src/gone.rt` is not there",
             "README.md `nothing`: nothing here is called nothing",
+            "CONTRIBUTING.md `lacking`: nothing here is called lacking",
             "README.md `docs/NO.md` is not there",
             "README.md `good` is not in rv_b",
             "README.md `kept` is not in specs/X.antt",
