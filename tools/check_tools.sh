@@ -79,22 +79,23 @@ part() {
 }
 
 if [ -n "$program" ]; then
-    part "hostile_table.py, the program" ./hostile_table.py "$program"
-    part "worked_runs.py, the program" ./worked_runs.py "$program"
-    part "random_scripts.py, the program" ./random_scripts.py "$program" 8 201 --exact
-    part "random_scripts.py --unique, the program" ./random_scripts.py "$program" 12 102 --exact --unique
-    part "random_scripts.py --changes, the program" ./random_scripts.py "$program" 4 103 --exact --changes
-    part "doc_examples.py, the program" ./doc_examples.py "$program"
-    part "program_words.py, the program" ./program_words.py "$program"
-    part "audit_texts.py, the auditor" ./audit_texts.py "$auditor"
+    part "hostile_table.py, the program" ./fuzz/hostile_table.py "$program"
+    part "worked_runs.py, the program" ./worked/worked_runs.py "$program"
+    part "random_scripts.py, the program" ./fuzz/random_scripts.py "$program" 8 201 --exact
+    part "random_scripts.py --unique, the program" ./fuzz/random_scripts.py "$program" 12 102 --exact --unique
+    part "random_scripts.py --changes, the program" ./fuzz/random_scripts.py "$program" 4 103 --exact --changes
+    part "doc_examples.py, the program" ./worked/doc_examples.py "$program"
+    part "program_words.py, the program" ./worked/program_words.py "$program"
+    part "audit_texts.py, the auditor" ./worked/audit_texts.py "$auditor"
 fi
-part "doc_examples.py, the slow model" ./doc_examples.py
+part "doc_examples.py, the slow model" ./worked/doc_examples.py
 for it in tests/test_*.py; do
     it=tests.$(basename "$it" .py)
     part "$it" python3 -m unittest -q "$it"
 done
-for it in "bounded_worst.py --tries 300" "gate_times check" "prover_times check" "check_pages.py --test" "check_pages.py" "believed.py --test" "believed.py --check"; do
-    part "$it" ./$it
+for it in "fuzz/bounded_worst.py --tries 300" "gate_times check" "prover_times check" "check_pages.py --test" "check_pages.py" \
+    "believed.py --test" "believed.py --check"; do
+    part "${it##*/}" ./$it
 done
 wait_below 1
 ./mutants check

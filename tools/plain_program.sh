@@ -22,4 +22,4 @@ sed -i 's/^use rv_store::Paged;/use rv_plain::Plain;/; s/Paged::new(alloc)/Plain
 sed -i '/^rv_cli:/s/ rv_store/ rv_plain/' "$copy/crates.txt"
 [ "$(grep -c Plain "$main")" = 2 ] && ! grep -q Paged "$main" || { echo "main makes its store in another way" >&2; exit 1; }
 "$copy/rvdyn" ${2:+"$2"} < /dev/null
-echo "tools/random_scripts.py ./rvdyn 500 1 --beside $copy/rvdyn"
+echo "tools/fuzz/random_scripts.py ./rvdyn 500 1 --beside $copy/rvdyn"

@@ -3,7 +3,7 @@
 import sys
 from pathlib import Path
 
-sys.path.insert(0, str(Path(__file__).resolve().parents[2] / "tools"))
+sys.path.insert(0, str(Path(__file__).resolve().parents[2] / "tools/shell"))
 import rvdyn  # noqa: E402
 
 PEOPLE = [("Ada", "Paris", 17), ("Ben", "Rome", 4), ("Cleo", "Paris", None), ("Dora", "Oslo", 31)]

@@ -4,9 +4,9 @@ import sys
 import unittest
 from pathlib import Path
 
-from audit_texts import cases, is_as_wanted
+from worked.audit_texts import cases, is_as_wanted
 
-TOOL = Path(__file__).resolve().parents[1] / "audit_texts.py"
+TOOL = Path(__file__).resolve().parents[1] / "worked/audit_texts.py"
 
 
 class Texts(unittest.TestCase):

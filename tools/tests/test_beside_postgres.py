@@ -6,11 +6,11 @@ import tempfile
 import unittest
 from pathlib import Path
 
-import beside_postgres
-from beside_postgres import Differs, Replay, Script, given_script, random_script, spoiled, transcript, values_of
+from fuzz import beside_postgres
+from fuzz.beside_postgres import Differs, Replay, Script, given_script, random_script, spoiled, transcript, values_of
+from fuzz.postgres_server import Answer, NoServer, programs
+from fuzz.postgres_sessions import sql, theirs
 from model.language import calls_of, fault_of, statement
-from postgres_server import Answer, NoServer, programs
-from postgres_sessions import sql, theirs
 
 TOOLS = Path(__file__).resolve().parents[1]
 WAIT, CHANGED, DUPLICATE = Answer("55P03", [], "lock timeout"), Answer("40001", []), Answer("23505", [])
@@ -184,7 +184,7 @@ class Scripts(unittest.TestCase):
             self.assertEqual([call.line for call in calls_of(given_script(file.name).text)], [2, 4])
 
     def test_one_reply_is_spoiled(self):
-        told = transcript(str(TOOLS / "slow_program.py"), given_script(str(TOOLS.parent / "examples" / "conflicts")), 60)
+        told = transcript(str(TOOLS / "model/slow_program.py"), given_script(str(TOOLS.parent / "examples" / "conflicts")), 60)
         for seed in range(20):
             wrong, at, what = spoiled(random.Random(seed), told)
             self.assertEqual([number for number, (a, b) in enumerate(zip(told, wrong)) if a != b], [at])
@@ -192,17 +192,17 @@ class Scripts(unittest.TestCase):
 
     def test_program_that_fails_is_told(self):
         with self.assertRaisesRegex(beside_postgres.NoRun, "status 2: script: line 1 has no session"):
-            transcript(str(TOOLS / "slow_program.py"), Script("", "9 BEGIN\n"), 60)
+            transcript(str(TOOLS / "model/slow_program.py"), Script("", "9 BEGIN\n"), 60)
 
 
 class NoPostgres(unittest.TestCase):
     def ran(self, *words: object) -> subprocess.CompletedProcess:
-        return subprocess.run([sys.executable, TOOLS / "beside_postgres.py", *words], capture_output=True, text=True, check=False)
+        return subprocess.run([sys.executable, TOOLS / "fuzz/beside_postgres.py", *words], capture_output=True, text=True, check=False)
 
     def test_where_there_is_none_it_is_said(self):
         with self.assertRaisesRegex(NoServer, "no PostgreSQL of version 15 or later in /nowhere"):
             programs("/nowhere")
-        told = self.ran(TOOLS / "slow_program.py", "--postgres", "/nowhere")
+        told = self.ran(TOOLS / "model/slow_program.py", "--postgres", "/nowhere")
         self.assertEqual((told.returncode, told.stdout), (0, ""))
         self.assertEqual(told.stderr, "beside_postgres: there is no PostgreSQL of version 15 or later in /nowhere; nothing was compared\n")
 

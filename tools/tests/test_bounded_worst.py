@@ -5,12 +5,12 @@ import unittest
 from pathlib import Path
 from random import Random
 
-import bounded_worst
-from bounded_worst import FULLEST, Case, all_leaves, fast_first, final
-from guarded_judge import GREATEST, bounded, listed, most_reads, parts
-from judge_reads import JUDGES, Facts
+from fuzz import bounded_worst
+from fuzz.bounded_worst import FULLEST, Case, all_leaves, fast_first, final
+from judges.guarded_judge import GREATEST, bounded, listed, most_reads, parts
+from judges.judge_reads import JUDGES, Facts
 
-TOOL = Path(__file__).resolve().parents[1] / "bounded_worst.py"
+TOOL = Path(__file__).resolve().parents[1] / "fuzz/bounded_worst.py"
 
 
 def facts(building=False, scan=0, scanned=1, kept=0, estimate=17, spent=1, projected=1, guaranteed=100) -> Facts:

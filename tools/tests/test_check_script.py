@@ -4,8 +4,8 @@ import sys
 import unittest
 from pathlib import Path
 
-from check_script import Finding, findings, of_fault
 from model.language import fault_of
+from shell.check_script import Finding, findings, of_fault
 
 TOP = Path(__file__).resolve().parents[2]
 TABLE = "1 CREATE TABLE PARTS (NAME VARCHAR(4), WEIGHT BIGINT)\n"
@@ -130,7 +130,7 @@ class CheckScript(unittest.TestCase):
         self.assertIn("LF or CR LF ends a line", of_fault(fault_of(data), data))
 
     def test_program(self):
-        command = [sys.executable, TOP / "tools/check_script.py"]
+        command = [sys.executable, TOP / "tools/shell/check_script.py"]
         ran = subprocess.run([*command, TOP / "examples/first-steps", "-"], input=b"1 COMIT\n", capture_output=True, check=False)
         self.assertEqual(ran.returncode, 1)
         self.assertTrue(ran.stdout.startswith(b"-:1:3: `COMIT` does not fit"), ran.stdout)

@@ -9,8 +9,8 @@ import unittest
 from pathlib import Path
 
 TOOLS = Path(__file__).resolve().parents[1]
-PARTS = """hostile_table.py worked_runs.py random_scripts.py doc_examples.py program_words.py audit_texts.py bounded_worst.py
-    gate_times prover_times check_pages.py believed.py mutants""".split()
+PARTS = """fuzz/hostile_table.py worked/worked_runs.py fuzz/random_scripts.py worked/doc_examples.py worked/program_words.py worked/audit_texts.py
+    fuzz/bounded_worst.py gate_times prover_times check_pages.py believed.py mutants""".split()
 # Tells its words, and then what the case `NAME.says` has, with the status of `NAME.ends`.
 PART = """#!/bin/sh
 echo "${0##*/} $*" >> asked
@@ -28,6 +28,7 @@ class CheckTools(unittest.TestCase):
         (self.tools / "tests").mkdir(parents=True)
         shutil.copy(TOOLS / "check_tools.sh", self.tools)
         for name in PARTS:
+            (self.tools / name).parent.mkdir(exist_ok=True)
             self.program(self.tools / name, PART)
         (self.tools / "tests/__init__.py").touch()
         (self.tools / "tests/test_one.py").write_text(TEST.format(1), encoding="utf-8")
@@ -85,8 +86,8 @@ class CheckTools(unittest.TestCase):
 
     def test_what_is_counted(self):
         for name, says, ends in (
-            ("hostile_table.py", "a case: status 3\n40 cases of hostile use, 3 end otherwise\n", 1), ("worked_runs.py", "100 worked runs, 0 end otherwise\n", 0),
-            ("audit_texts.py", "Traceback: no such file\n", 1), ("program_words.py", "7 command lines, 0 differ\n", 2), ("check_pages.py", "87 pages, 9 faults, 76 to be read\n", 1),
+            ("fuzz/hostile_table.py", "a case: status 3\n40 cases of hostile use, 3 end otherwise\n", 1), ("worked/worked_runs.py", "100 worked runs, 0 end otherwise\n", 0),
+            ("worked/audit_texts.py", "Traceback: no such file\n", 1), ("worked/program_words.py", "7 command lines, 0 differ\n", 2), ("check_pages.py", "87 pages, 9 faults, 76 to be read\n", 1),
         ):  # fmt: skip
             (self.tools / f"{name}.says").write_text(says, encoding="utf-8")
             (self.tools / f"{name}.ends").write_text(f"{ends}\n", encoding="utf-8")
@@ -102,7 +103,7 @@ class CheckTools(unittest.TestCase):
         self.assertIn("100 passed  worked_runs.py, the program", ran.stdout)
 
     def test_broken_off_it_ends_its_parts(self):
-        self.program(self.tools / "doc_examples.py", '#!/bin/sh\necho $$ > pid\nexec sleep 60\n')
+        self.program(self.tools / "worked/doc_examples.py", '#!/bin/sh\necho $$ > pid\nexec sleep 60\n')
         running = subprocess.Popen([str(self.tools / "check_tools.sh")], stdout=subprocess.DEVNULL, stderr=subprocess.DEVNULL)
         pid, until = self.tools / "pid", time.monotonic() + 60
         while not (pid.exists() and pid.read_text()) and time.monotonic() < until:

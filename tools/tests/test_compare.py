@@ -7,12 +7,11 @@ import unittest
 import xml.etree.ElementTree as ElementTree
 from pathlib import Path
 
-import judge_reads
-import skewed_queries
-from compare import BEST, PLANNER, PathsOf, as_json, picture, table, told_of
+from judges import judge_reads, skewed_queries
 from model.engine import Plan
 from model.language import Mark, calls_of, statement
 from model.program import Session
+from shell.compare import BEST, PLANNER, PathsOf, as_json, picture, table, told_of
 
 TOP = Path(__file__).resolve().parents[2]
 
@@ -204,7 +203,7 @@ class Program(unittest.TestCase):
         with tempfile.TemporaryDirectory() as folder:
             path = Path(folder) / "script"
             path.write_text(script, encoding="utf-8")
-            command = [sys.executable, TOP / "tools/compare.py", path, *words]
+            command = [sys.executable, TOP / "tools/shell/compare.py", path, *words]
             told = subprocess.run(command, capture_output=True, text=True, check=False)
             told.stderr = told.stderr.replace(str(path), "FILE")
             return told

@@ -6,10 +6,10 @@ import unittest
 import unittest.mock
 from pathlib import Path
 
-import expand
-from interleave import by_model as run_by_model
 from model.language import calls_of
 from model.program import run
+from shell import expand
+from shell.interleave import by_model as run_by_model
 
 TOOLS = Path(__file__).resolve().parents[1]
 
@@ -106,11 +106,11 @@ class Expand(unittest.TestCase):
         self.assertEqual([reply.split()[0] for _, _, reply in replies], ["row"] * 4 + ["end"])
 
     def test_program(self):
-        command = [sys.executable, TOOLS / "expand.py"]
+        command = [sys.executable, TOOLS / "shell/expand.py"]
         told = "-:3: FETCH X ALL: no cursor X\n-:24: FETCH C ALL: no cursor C\n"
         with tempfile.TemporaryDirectory() as folder:
             program, broken = Path(folder, "program"), Path(folder, "broken")
-            program.write_text(f'#!/bin/sh\nexec {sys.executable} {TOOLS}/slow_program.py "$@"\n', encoding="utf-8")
+            program.write_text(f'#!/bin/sh\nexec {sys.executable} {TOOLS}/model/slow_program.py "$@"\n', encoding="utf-8")
             broken.write_text("#!/bin/sh\nexit 4\n", encoding="utf-8")
             for file in (program, broken):
                 file.chmod(0o755)

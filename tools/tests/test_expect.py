@@ -4,7 +4,7 @@ import sys
 import unittest
 from pathlib import Path
 
-from expect import told
+from shell.expect import told
 
 TOP = Path(__file__).resolve().parents[2]
 SCRIPT = b"# one\n1 BEGIN\n\n1 COMMIT\n"
@@ -43,7 +43,7 @@ class Expect(unittest.TestCase):
         self.assertEqual(self.said(b"\xff")[0], "e:1: expected is `1 BEGIN`, and `\\xff` came")
 
     def test_program(self):
-        command = [sys.executable, TOP / "tools/expect.py"]
+        command = [sys.executable, TOP / "tools/shell/expect.py"]
         expected = TOP / "examples/bank.transcript"
         data = expected.read_bytes()
         ran = subprocess.run([*command, expected], input=data, capture_output=True, check=False)

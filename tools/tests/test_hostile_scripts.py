@@ -8,14 +8,14 @@ import unittest
 from collections import Counter
 from pathlib import Path
 
-import program_words
-from hostile_scripts import Edges, accepted, came, difference, of_number, shrunk, wanted
-from limited_memory import Ran, Shim, is_front, wrong_end
+from fuzz.hostile_scripts import Edges, accepted, came, difference, of_number, shrunk, wanted
+from fuzz.limited_memory import Ran, Shim, is_front, wrong_end
 from model.language import fault_of
+from worked import program_words
 
 TOOLS = Path(__file__).resolve().parents[1]
-TOOL = [sys.executable, str(TOOLS / "hostile_scripts.py")]
-MODEL = TOOLS / "slow_program.py"
+TOOL = [sys.executable, str(TOOLS / "fuzz/hostile_scripts.py")]
+MODEL = TOOLS / "model/slow_program.py"
 
 # A program that takes 100 rooms of 1,000 bytes, each but the first four allowed to be refused, and tells how many it got.
 TAKER = r"""

@@ -8,9 +8,9 @@ import tempfile
 import unittest
 from pathlib import Path
 
-from hostile_table import FIRST, Table, told
+from fuzz.hostile_table import FIRST, Table, told
 
-MODEL = Path(__file__).resolve().parents[1] / "slow_program.py"
+MODEL = Path(__file__).resolve().parents[1] / "model/slow_program.py"
 
 # A program that tells a transcript, each call behind an allocation, and ends with status 4 where that is refused. Where it is
 # wrong it tells each line behind one.

@@ -6,11 +6,11 @@ import unittest
 from collections import Counter
 from pathlib import Path
 
-from interleave import Namer, by_model, every_order, how_many, outcomes, phases, random_orders
+from shell.interleave import Namer, by_model, every_order, how_many, outcomes, phases, random_orders
 
 TOP = Path(__file__).resolve().parents[2]
 FOLDER = TOP / "tools/tests/interleavings"
-PROGRAM = [sys.executable, str(TOP / "tools/interleave.py")]
+PROGRAM = [sys.executable, str(TOP / "tools/shell/interleave.py")]
 
 
 class Interleave(unittest.TestCase):

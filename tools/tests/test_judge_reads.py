@@ -1,16 +1,11 @@
-import sys
 import unittest
-from pathlib import Path
 from xml.dom import minidom
 
-sys.path.insert(0, str(Path(__file__).parent.parent))
-
-import judge_pictures
-import judge_reads
+from judges import judge_pictures, judge_reads
+from judges.skewed_queries import script, workload
 from model.language import calls_of
 from model.program import Session
 from model.trees import Tree
-from skewed_queries import script, workload
 
 
 def traces(work, judge, steps):

@@ -7,9 +7,9 @@ import unittest
 import unittest.mock
 from pathlib import Path
 
-import load
 from model.language import fault_of
 from model.program import is_refusal, run
+from shell import load
 
 TOOLS = Path(__file__).resolve().parents[1]
 
@@ -200,7 +200,7 @@ class Load(unittest.TestCase):
         self.assertEqual(replies[-4:], ["row 'it''s, \"so\"'", "row NULL", "row 'äöü'", "end"])
 
     def test_program(self):
-        command = [sys.executable, TOOLS / "load.py", "--table", "T"]
+        command = [sys.executable, TOOLS / "shell/load.py", "--table", "T"]
         ran = subprocess.run([*command, "-"], input="a,b\n1,ä\n".encode(), capture_output=True, check=True, env={"LC_ALL": "C"})
         self.assertEqual(ran.stdout.decode().splitlines()[2], "1 INSERT INTO T VALUES (1, 'ä')")
         with tempfile.TemporaryDirectory() as folder:
@@ -209,7 +209,7 @@ class Load(unittest.TestCase):
             ran = subprocess.run([*command, file], capture_output=True, text=True, check=False)
             self.assertEqual((ran.returncode, ran.stdout, ran.stderr), (1, "", f"{file}:3: 2 fields for 1 column\n"))
             ran = subprocess.run([*command, file, "--first", "1"], capture_output=True, text=True, check=False)
-            self.assertEqual(ran.stdout.splitlines()[0], "# made by tools/load.py from people.csv")
+            self.assertEqual(ran.stdout.splitlines()[0], "# made by tools/shell/load.py from people.csv")
 
     def test_fractions(self):
         self.assertEqual(self.rows('ID,AMOUNT\n1,12.50\n2,7\n3,"-0,5"\n4,\n', "--scale", "amount=2"), ["1, 1250", "2, 700", "3, -50", "4, NULL"])

@@ -5,7 +5,7 @@ import tempfile
 import unittest
 from pathlib import Path
 
-import rvdyn
+from shell import rvdyn
 
 TOP = Path(__file__).resolve().parents[2]
 

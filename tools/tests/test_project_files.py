@@ -24,7 +24,7 @@ class ProjectFiles(unittest.TestCase):
     def test_example_of_the_manual_is_a_run(self):
         example = text("share/man/rvdyn.1").split(".nf\n")[1].split(".fi")[0].replace("\\-", "-")
         _, script, tail = re.split(r"^\$ .*\n", example, flags=re.M)
-        ran = subprocess.run([TOP / "tools" / "slow_program.py"], input=script, capture_output=True, text=True, check=True)
+        ran = subprocess.run([TOP / "tools/model/slow_program.py"], input=script, capture_output=True, text=True, check=True)
         self.assertEqual(ran.stdout.splitlines()[-4:], tail.splitlines())
 
     def test_syntax_file_has_the_keywords(self):

@@ -3,7 +3,7 @@ second at least 10."""
 import unittest
 
 from model.program import run
-from try_retrievals import IA, IC, MUCH, Asked, Table, access, in_turn, patient, threshold
+from tables.try_retrievals import IA, IC, MUCH, Asked, Table, access, in_turn, patient, threshold
 
 
 class Races(unittest.TestCase):

@@ -4,9 +4,9 @@ import sys
 import unittest
 from pathlib import Path
 
+from fuzz.random_scripts import Maker
 from model.program import is_refusal, run, transcript
-from random_scripts import Maker
-from refusals import NoTranscript, Reasons, lines_of, refusal_of, summary
+from shell.refusals import NoTranscript, Reasons, lines_of, refusal_of, summary
 
 import random
 
@@ -132,10 +132,10 @@ class Refusals(unittest.TestCase):
     def test_program(self):
         script = TOP / "examples/refusals"
         data = transcript(run(script.read_text(encoding="utf-8"))).encode()
-        ran = subprocess.run([sys.executable, TOP / "tools/refusals.py", "-", "--script", script, "--only", "held"], input=data, capture_output=True, check=False)
+        ran = subprocess.run([sys.executable, TOP / "tools/shell/refusals.py", "-", "--script", script, "--only", "held"], input=data, capture_output=True, check=False)
         self.assertEqual((ran.returncode, ran.stderr), (0, b""))
         self.assertIn("refused:", ran.stdout.decode().splitlines()[-1])
-        ran = subprocess.run([sys.executable, TOP / "tools/refusals.py"], input=b"no transcript\n", capture_output=True, check=False)
+        ran = subprocess.run([sys.executable, TOP / "tools/shell/refusals.py"], input=b"no transcript\n", capture_output=True, check=False)
         self.assertEqual((ran.returncode, ran.stdout), (1, b""))
 
 

@@ -8,8 +8,8 @@ import unittest
 from argparse import Namespace
 from pathlib import Path
 
-import rows
 from model.program import run, transcript
+from shell import rows
 
 TOP = Path(__file__).resolve().parents[2]
 
@@ -130,7 +130,7 @@ class Rows(unittest.TestCase):
             self.assertEqual(sum(len(opening.rows) for opening in found), (TOP / f"examples/{name}.transcript").read_text(encoding="utf-8").count("\n= row "))
 
     def test_program(self):
-        command = [sys.executable, TOP / "tools/rows.py"]
+        command = [sys.executable, TOP / "tools/shell/rows.py"]
         ran = subprocess.run([*command, "-", "--cursor", "d", "--csv"], input=made(SCRIPT), capture_output=True, check=True, env={"LC_ALL": "C"})
         self.assertEqual(ran.stdout, b"X.A_1,B,U.A,Y.A,X.A_2\n7,\"it's, ok\",1,1,7\n")
         for asked in (["--cursor", "x"], []):

@@ -7,7 +7,7 @@ import unittest
 from pathlib import Path
 from unittest.mock import Mock
 
-from shell import Model, Quit, Shell, completer
+from shell.shell import Model, Quit, Shell, completer
 
 TOP = Path(__file__).resolve().parents[2]
 
@@ -76,7 +76,7 @@ class Shells(unittest.TestCase):
 
     def test_replies_are_those_of_the_transcript(self):
         example = TOP / "examples/conflicts"
-        ran = subprocess.run([sys.executable, TOP / "tools/shell.py", "--model"], input=example.read_bytes(), capture_output=True, check=True)
+        ran = subprocess.run([sys.executable, TOP / "tools/shell/shell.py", "--model"], input=example.read_bytes(), capture_output=True, check=True)
         lines = [line for line in ran.stdout.decode().splitlines() if line and not line.startswith(("#", "--"))]
         self.assertEqual(lines, (TOP / "examples/conflicts.transcript").read_text(encoding="utf-8").splitlines())
 
@@ -84,7 +84,7 @@ class Shells(unittest.TestCase):
         with tempfile.TemporaryDirectory() as folder:
             program = Path(folder, "program")
             program.write_bytes(b"\x7fELF")
-            ran = subprocess.run([sys.executable, TOP / "tools/shell.py", "--program", program, "--judge", "bounded"], input=b"", capture_output=True, check=False)
+            ran = subprocess.run([sys.executable, TOP / "tools/shell/shell.py", "--program", program, "--judge", "bounded"], input=b"", capture_output=True, check=False)
         self.assertEqual((ran.returncode, ran.stdout), (2, b""))
         self.assertTrue(ran.stderr.decode().endswith(f"error: {program} takes a judge by its number: ./rvdyn has one by the name 'bounded', in the program that it picks\n"))
 

@@ -2,7 +2,7 @@
 import pathlib
 import unittest
 
-from slow_audit import entries_of, verdict
+from model.slow_audit import entries_of, verdict
 
 EXAMPLES = pathlib.Path(__file__).resolve().parents[2] / "examples"
 SCRIPT = b"1 CREATE TABLE T (A BIGINT)\n--\n1 BEGIN\n2 BEGIN\n"

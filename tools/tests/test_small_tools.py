@@ -8,11 +8,10 @@ import tempfile
 import unittest
 from pathlib import Path
 
-import doc_examples
-import program_words
+from worked import doc_examples, program_words
 
 TOOLS = Path(__file__).resolve().parents[1]
-MODEL = [sys.executable, str(TOOLS / "slow_program.py")]
+MODEL = [sys.executable, str(TOOLS / "model/slow_program.py")]
 
 # A program that takes ten allocations before its one call, and ends as the statuses say, or as it should not.
 TEN = r"""
@@ -49,7 +48,7 @@ class Folder(unittest.TestCase):
 
 class Help(unittest.TestCase):
     def test_each_tool_says_what_it_is_for(self):
-        tools = [path for path in sorted(TOOLS.iterdir()) if path.is_file() and path.stat().st_mode & stat.S_IXUSR]
+        tools = [path for path in sorted(TOOLS.rglob("*")) if path.is_file() and path.stat().st_mode & stat.S_IXUSR]
         self.assertGreater(len(tools), 25)
         for tool in tools:
             told = ran(tool, "--help", stdin=subprocess.DEVNULL)
@@ -57,7 +56,7 @@ class Help(unittest.TestCase):
             self.assertGreater(len(told.stdout.split()), 15, tool)
 
     def test_a_word_that_is_none_is_told(self):
-        for tool in sorted(TOOLS.glob("*.py")):
+        for tool in sorted(TOOLS.rglob("*.py")):
             if tool.stat().st_mode & stat.S_IXUSR and "argparse" in tool.read_text(encoding="utf-8"):
                 told = ran(tool, "--no-such-word", stdin=subprocess.DEVNULL)
                 self.assertEqual((told.returncode, told.stdout), (2, ""), tool)
@@ -67,11 +66,13 @@ class NotThere(unittest.TestCase):
     def test_file_or_program_that_is_not_there_is_told_in_one_line(self):
         gone, bank = "/nowhere", TOOLS.parent / "examples" / "bank"
         for name, *words in [
-            ("check_script.py", gone), ("timeline.py", gone), ("timeline.py", bank, "--svg", "/nowhere/x.svg"), ("compare.py", gone), ("compare.py", bank, "--svg", "/nowhere/x.svg"), ("interleave.py", gone),
-            ("interleave.py", TOOLS / "tests/interleavings/lost-update.script", "--expected", gone), ("slow_audit.py", gone, gone),
-            ("hostile_scripts.py", gone, "--damaged", 1), ("hostile_table.py", gone), ("random_scripts.py", gone, 1),
-            ("load.py", gone, "--table", "T"), ("rows.py", gone), ("expand.py", gone), ("refusals.py", gone),
-            ("expect.py", gone), ("expect.py", bank, gone), ("program_words.py", gone), ("worked_runs.py", gone), ("doc_examples.py", gone), ("refused_memory.py", gone, gone, gone), ("gate_times", "tell", gone),
+            ("shell/check_script.py", gone), ("shell/timeline.py", gone), ("shell/timeline.py", bank, "--svg", "/nowhere/x.svg"),
+            ("shell/compare.py", gone), ("shell/compare.py", bank, "--svg", "/nowhere/x.svg"), ("shell/interleave.py", gone),
+            ("shell/interleave.py", TOOLS / "tests/interleavings/lost-update.script", "--expected", gone), ("model/slow_audit.py", gone, gone),
+            ("fuzz/hostile_scripts.py", gone, "--damaged", 1), ("fuzz/hostile_table.py", gone), ("fuzz/random_scripts.py", gone, 1),
+            ("shell/load.py", gone, "--table", "T"), ("shell/rows.py", gone), ("shell/expand.py", gone), ("shell/refusals.py", gone),
+            ("shell/expect.py", gone), ("shell/expect.py", bank, gone), ("worked/program_words.py", gone), ("worked/worked_runs.py", gone),
+            ("worked/doc_examples.py", gone), ("fuzz/refused_memory.py", gone, gone, gone), ("gate_times", "tell", gone),
         ]:  # fmt: skip
             told = ran(TOOLS / name, *words)
             self.assertEqual((told.returncode, told.stderr.count("\n")), (2, 1), (name, told.stderr))
@@ -113,19 +114,19 @@ if sys.argv[1:] not in {accepted!r}:
     sys.stderr.write({program_words.USAGE.decode()!r})
     sys.exit(1)
 """
-        good = ran(TOOLS / "program_words.py", self.program(text))
+        good = ran(TOOLS / "worked/program_words.py", self.program(text))
         self.assertEqual((good.returncode, good.stdout), (0, "70 command lines, 0 differ\n"))
-        bad = ran(TOOLS / "program_words.py", self.program(text.replace("exit(1)", "exit(2)")))
+        bad = ran(TOOLS / "worked/program_words.py", self.program(text.replace("exit(1)", "exit(2)")))
         self.assertEqual((bad.returncode, bad.stdout.splitlines()[-1]), (1, "70 command lines, 53 differ"))
 
 
 class Random(Folder):
     def test_model_beside_itself_and_a_program_that_loses_a_row(self):
         program = self.program(f'#!/bin/sh\n{" ".join(MODEL)} "$@"\n')
-        told = ran(TOOLS / "random_scripts.py", "--exact", program, 4, 1)
+        told = ran(TOOLS / "fuzz/random_scripts.py", "--exact", program, 4, 1)
         self.assertEqual((told.returncode, told.stdout), (0, "4 scripts, 0 differ\n"))
         other = self.program(f'#!/bin/bash\nset -o pipefail\n{" ".join(MODEL)} "$@" | sed "s/= committed 1$/= committed 2/"\n')
-        told = ran(TOOLS / "random_scripts.py", other, 4, 1)
+        told = ran(TOOLS / "fuzz/random_scripts.py", other, 4, 1)
         self.assertEqual(told.returncode, 1)
         self.assertIn("'= committed 2' for committed 1", told.stdout)
 
@@ -139,7 +140,7 @@ class Refused(Folder):
         script, transcript = self.folder / "script", self.folder / "transcript"
         script.write_text("1 COMMIT\n", encoding="utf-8")
         transcript.write_text("1 COMMIT\n= no transaction\n", encoding="utf-8")
-        return ran(TOOLS / "refused_memory.py", program, script, transcript)
+        return ran(TOOLS / "fuzz/refused_memory.py", program, script, transcript)
 
     def test_each_allocation_is_refused_in_turn(self):
         told = self.refuse(99)

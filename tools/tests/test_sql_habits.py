@@ -1,9 +1,9 @@
 """What users of SQL write is told with what stands for it; what the language has is told nothing."""
 import unittest
 
-from check_script import findings
 from model.language import tokens
-from sql_habits import shape_of
+from shell.check_script import findings
+from shell.sql_habits import shape_of
 
 TABLE = "1 CREATE TABLE PARTS (NAME VARCHAR(4), WEIGHT BIGINT)\n"
 
@@ -28,7 +28,7 @@ HABITS = [
     ("TRUNCATE PARTS", 3, "DELETE FROM T"),
     ("SAVEPOINT S", 3, "no savepoints"),
     ("ROLLBACK TO S", 12, "no savepoints"),
-    ("COPY PARTS FROM 'x.csv'", 3, "tools/load.py"),
+    ("COPY PARTS FROM 'x.csv'", 3, "tools/shell/load.py"),
     ("WITH X AS (SELECT * FROM PARTS) SELECT * FROM X", 3, "OPEN C SELECT"),
     ("SELECT * FROM PARTS", 3, "OPEN C SELECT"),
     ("LOCK TABLE PARTS", 3, "takes a row"),
@@ -80,8 +80,8 @@ HABITS = [
     # cursors and transactions
     ("OPEN C FOR SELECT * FROM PARTS", 10, "OPEN C SELECT"),
     ("OPEN C", 9, "OPEN C SELECT"),
-    ("FETCH C ALL", 11, "tools/expand.py"),
-    ("FETCH ALL", 9, "tools/expand.py"),
+    ("FETCH C ALL", 11, "tools/shell/expand.py"),
+    ("FETCH ALL", 9, "tools/shell/expand.py"),
     ("FETCH 10 FROM C", 9, "one row"),
     ("FETCH PRIOR FROM C", 15, "goes forward"),
     ("CLOSE ALL", 9, "closes one cursor"),

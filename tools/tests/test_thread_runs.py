@@ -25,13 +25,13 @@ class Runs(unittest.TestCase):
         program = self.folder / "program"
         program.write_text(text, encoding="utf-8")
         program.chmod(0o755)
-        tool = [sys.executable, str(TOOLS / "thread_runs.py"), str(program), *words]
+        tool = [sys.executable, str(TOOLS / "fuzz/thread_runs.py"), str(program), *words]
         ran = subprocess.run(tool, capture_output=True, text=True, timeout=300, check=False)
         self.assertEqual(ran.stderr, "")
         return ran.returncode, ran.stdout.splitlines()
 
     def model(self, after: str) -> str:
-        return PLAIN.format(python=sys.executable, model=TOOLS / "slow_program.py", filter=after)
+        return PLAIN.format(python=sys.executable, model=TOOLS / "model/slow_program.py", filter=after)
 
     def test_legal_runs(self):
         for more in ([], ["--shaken"]):
@@ -49,7 +49,7 @@ class Runs(unittest.TestCase):
         self.assertIn("no end within 1 seconds", lines[0])
 
     def test_a_program_that_is_not_there(self):
-        tool = [sys.executable, str(TOOLS / "thread_runs.py"), str(self.folder / "none")]
+        tool = [sys.executable, str(TOOLS / "fuzz/thread_runs.py"), str(self.folder / "none")]
         ran = subprocess.run(tool, capture_output=True, text=True, timeout=60, check=False)
         self.assertEqual(ran.returncode, 2)
         self.assertEqual(len(ran.stderr.splitlines()), 1)

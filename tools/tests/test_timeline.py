@@ -5,7 +5,7 @@ import unittest
 import xml.etree.ElementTree as ElementTree
 from pathlib import Path
 
-from timeline import NotThere, Sought, courses_of, picture, runs, text, wrap
+from shell.timeline import NotThere, Sought, courses_of, picture, runs, text, wrap
 
 TOP = Path(__file__).resolve().parents[2]
 SCRIPT = (TOP / "examples/change-of-path").read_text(encoding="utf-8")
@@ -105,21 +105,21 @@ class Timeline(unittest.TestCase):
         self.assertEqual(wrap("    aa bb cc", 9), ["    aa bb", "      cc"])
 
     def test_program(self):
-        command = [sys.executable, TOP / "tools/timeline.py", TOP / "examples/first-steps", "--cursor", "NONE"]
+        command = [sys.executable, TOP / "tools/shell/timeline.py", TOP / "examples/first-steps", "--cursor", "NONE"]
         ran = subprocess.run(command, capture_output=True, check=False)
         self.assertEqual(ran.returncode, 1)
         self.assertIn(b"opened are: ", ran.stderr)
         self.assertIn(b" of session ", ran.stderr)
 
     def test_cursors_of_the_words(self):
-        command = [sys.executable, TOP / "tools/timeline.py", "-", "--cursor", "d", "--cursor", "C", "--opening", "1"]
+        command = [sys.executable, TOP / "tools/shell/timeline.py", "-", "--cursor", "d", "--cursor", "C", "--opening", "1"]
         ran = subprocess.run(command, input=TWO, capture_output=True, text=True, check=False)
         self.assertEqual((ran.returncode, ran.stderr), (0, ""))
         heads = [line for line in ran.stdout.split("\n") if line.startswith("line ")]
         self.assertEqual(heads, ["line 6, session 1: OPEN C SELECT * FROM T", "line 7, session 2: OPEN D SELECT * FROM T"])
 
     def test_what_is_no_script(self):
-        ran = subprocess.run([sys.executable, TOP / "tools/timeline.py", "-"], input="1 BEGIN\nBEGIN\n", capture_output=True, text=True, check=False)
+        ran = subprocess.run([sys.executable, TOP / "tools/shell/timeline.py", "-"], input="1 BEGIN\nBEGIN\n", capture_output=True, text=True, check=False)
         self.assertEqual((ran.returncode, ran.stdout), (2, ""))
         self.assertTrue(ran.stderr.startswith("-:2: script: line 2 has no session (a line is"), ran.stderr)
 

@@ -7,11 +7,11 @@ import tempfile
 import unittest
 from pathlib import Path
 
-import worked_queries
 from model.language import fault_of
 from model.program import run, transcript
-from slow_program import add_run_options
-from worked_runs import Came, Runs, Service, faults, lines, texts, transcripts
+from model.slow_program import add_run_options
+from worked import worked_queries
+from worked.worked_runs import Came, Runs, Service, faults, lines, texts, transcripts
 
 WORDS = argparse.ArgumentParser()
 add_run_options(WORDS)
@@ -47,7 +47,7 @@ class WorkedRuns(unittest.TestCase):
         self.assertEqual(self.counted(Model([]), "try_scripts", "try_traces"), (181, 0))
 
     def test_the_model_serves(self):
-        model = Runs([sys.executable, str(Path(__file__).resolve().parents[1] / "slow_program.py")])
+        model = Runs([sys.executable, str(Path(__file__).resolve().parents[1] / "model/slow_program.py")])
         self.assertEqual(self.counted(model, "try_services"), (66, 0))
 
     def test_a_service_that_waits_for_the_end_is_refused(self):
