@@ -28,7 +28,7 @@ pub enum AuditStatus {
 }
 
 impl AuditStatus {
-    /// The program's exit code.
+    /// The program's exit code, from 0 where the transcript is legal to 9; docs/AUDIT.md has them all.
     pub fn code(&self) -> u8
         ensures { result ≡ audit_code self.now }
     {

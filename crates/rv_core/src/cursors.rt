@@ -31,7 +31,8 @@ use rv_value::{Duplicate, Items, NoMemory, Text};
 use rv_view::View;
 use std::alloc::Global;
 
-/// The place of the session's cursor of this name.
+/// The place of the session's cursor of this name among all that are open; None where it has none. Another session's
+/// may have the same name.
 #[tactic(auto, using(crate::proofs::Opens::named_seen))]
 pub fn cursor_named(cursors: &Items<Open>, session: u8, name: &Text) -> Option<usize>
     ensures seen { (shown : Shown) → result ≡ cursor_named (seen shown cursors.now) session name.now }
@@ -66,14 +67,14 @@ fn count_open(cursors: &Items<Open>, session: u8) -> usize
         .count()
 }
 
-/// Takes a session's cursors away.
+/// Takes a session's cursors away, as the end of its transaction does. The others stay in their order.
 pub fn close_all(cursors: &mut Items<Open>, session: u8)
     ensures { cursors.new ≡ filter (λ c. not (c.session == session)) cursors.old }
 {
     cursors.retain(|cursor| cursor.session != session);
 }
 
-/// Takes the cursor in a place away.
+/// Takes the cursor in a place away. The others keep their numbers, by which pieces name them.
 pub fn close_at(cursors: &mut Items<Open>, place: usize)
     requires { place < length cursors.old }
     ensures { cursors.new ≡ remove cursors.old place }

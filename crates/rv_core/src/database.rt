@@ -103,7 +103,7 @@ impl<S: Store + Reader<Ledger = Uncounted> + Drop> Database<S> {
         }
     }
 
-    /// How many cursors are open.
+    /// How many cursors are open, those of all sessions together.
     pub fn open_cursors(&self) -> u32
         ensures opens { result ≡ length self.now.opens }
         ensures cursors { result ≡ length self.now.stand.db.cursors }
@@ -448,7 +448,8 @@ impl<S: Store + Reader<Ledger = Uncounted> + Drop> Database<S> {
         )
     }
 
-    /// STEP: so many background steps at most.
+    /// STEP: so many background steps at most, and the reply counts them. There are fewer only where no piece is
+    /// awaited.
     #[tactic(auto, using(crate::proofs::Keeping::sees_same))]
     pub fn step(
         &mut self,

@@ -74,14 +74,14 @@ impl<S: Store + Reader<Ledger = Uncounted> + Drop> Engine<S> {
         self.history.as_slice()
     }
 
-    /// The phase of the next call.
+    /// The phase that the entry of the next call gets: 1 in a new core, and one more after each `next_phase`.
     pub fn phase(&self) -> u32
         ensures { result ≡ self.now.phase }
     {
         self.phase
     }
 
-    /// How many cursors are open.
+    /// How many cursors are open, those of all sessions together.
     pub fn open_cursors(&self) -> u32
         ensures opens { result ≡ length self.now.opens }
         ensures cursors { result ≡ length (after self.now.history).cursors }
@@ -89,7 +89,7 @@ impl<S: Store + Reader<Ledger = Uncounted> + Drop> Engine<S> {
         self.database.open_cursors()
     }
 
-    /// Begins the next phase.
+    /// Begins the next phase, whose number the entries of further calls get. Transactions and cursors go on.
     pub fn next_phase(&mut self)
         requires { self.old.phase < 2 ^ 32 - 1 }
         ensures { self.new ≡ record self.old { phase = self.old.phase + 1 } }

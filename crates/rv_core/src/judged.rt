@@ -51,14 +51,14 @@ impl<S: Store + Reader<Ledger = Uncounted> + Drop> Core<S> {
         self.engine.history()
     }
 
-    /// The phase of the next call.
+    /// The phase that the entry of the next call gets: 1 in a new core, and one more after each `next_phase`.
     pub fn phase(&self) -> u32
         ensures { result ≡ self.now.engine.phase }
     {
         self.engine.phase()
     }
 
-    /// How many cursors are open.
+    /// How many cursors are open, those of all sessions together.
     pub fn open_cursors(&self) -> u32
         ensures opens { result ≡ length self.now.engine.opens }
         ensures cursors { result ≡ length (after self.now.engine.history).cursors }
@@ -66,7 +66,7 @@ impl<S: Store + Reader<Ledger = Uncounted> + Drop> Core<S> {
         self.engine.open_cursors()
     }
 
-    /// Begins the next phase.
+    /// Begins the next phase, whose number the entries of further calls get. Transactions and cursors go on.
     pub fn next_phase(&mut self)
         requires { self.old.engine.phase < 2 ^ 32 - 1 }
         ensures engine { self.new.engine ≡ record self.old.engine { phase = self.old.engine.phase + 1 } }

@@ -56,7 +56,7 @@ pub fn next_waiting(cursors: &Items<Open>, after: u64) -> Option<usize>
     }
 }
 
-/// The place of the open cursor of a number.
+/// The place of the open cursor of a number, by which a piece names it; None where that is closed.
 pub fn numbered(cursors: &Items<Open>, number: u64) -> Option<usize>
     ensures { result ≡ numbered number cursors.now }
 {

@@ -12,7 +12,7 @@ use rv_lang::{Refusal, Reply, Shown, ShownEvent, Which};
 use rv_value::{Duplicate, Items, NoMemory, Shared, Text};
 use std::alloc::Global;
 
-/// A reply and its copy.
+/// A reply and its copy, for the caller and for the history. Where the copy finds no memory both are gone.
 pub fn twice(alloc: Global, reply: Reply) -> Result<(Reply, Reply), NoMemory>
     ensures { IfOk result (λ replies. (replies.0 ≡ reply) × (replies.1 ≡ reply)) }
 {
@@ -25,7 +25,7 @@ pub fn twice(alloc: Global, reply: Reply) -> Result<(Reply, Reply), NoMemory>
     }
 }
 
-/// A refusal, twice.
+/// A refusal as two equal replies, which share it. `NoMemory` leaves neither.
 pub fn refused(alloc: Global, refusal: Refusal) -> Result<(Reply, Reply), NoMemory>
     ensures { IfOk result (λ replies. (replies.0 ≡ Refused refusal) × (replies.1 ≡ Refused refusal)) }
 {
@@ -41,7 +41,7 @@ pub fn no_cursor(alloc: Global, name: &Text) -> Result<(Reply, Reply), NoMemory>
     refused(alloc, Refusal::NoCursor(copy))
 }
 
-/// A call that is answered in one turn.
+/// The replies of a call that one turn answers, as those of a turn, of which none works on.
 pub fn answered(
     replies: Result<(Reply, Reply), NoMemory>,
 ) -> Result<Option<(Reply, Reply)>, NoMemory>

@@ -18,7 +18,8 @@ pub struct Summary {
     pub refused: u64,
 }
 
-/// The summary of a history.
+/// The summary of a history, which a run with `--gen` writes: how many calls, rows, ends, commits and refusals there
+/// were.
 pub fn summary_of(entries: &[Entry]) -> Summary
     ensures { result ≡ summary entries.now }
 {

@@ -46,7 +46,7 @@ impl Model for Gathered {
 }
 
 impl Gathered {
-    /// No offers.
+    /// Nothing gathered. It takes no memory.
     pub fn new(alloc: Global) -> Gathered
         ensures { result ≡ [] }
     {
@@ -99,7 +99,7 @@ impl Gathered {
         sort(&mut self.offers)
     }
 
-    /// Takes the first offer.
+    /// Takes the first offer, once they are sorted; None where none is left. None of the others is moved.
     pub fn take(&mut self) -> Option<Offer>
         ensures taken { Taken result self.old self.new }
     {

@@ -32,7 +32,8 @@ fn turn(offers: &mut Vec<Offer>)
     offers.as_mut_slice().reverse();
 }
 
-/// Sorts offers by their order values.
+/// Sorts offers by their order values, and turns them, since the first one is taken from the end. Where the sort finds
+/// no memory all are there, in some order.
 pub fn sort(offers: &mut Vec<Offer>) -> Result<(), NoMemory>
     ensures same { IsPermutation (reverse offers.old.items) (reverse offers.new.items) }
     ensures sorted { OnOk result (IsSortedBy before (reverse offers.new.items)) }
@@ -51,7 +52,7 @@ pub fn keep(offers: &mut Vec<Offer>, offer: Offer)
     offers.push(offer).unwrap();
 }
 
-/// Takes the first offer.
+/// Takes the first offer, which stands at the end, so that none of the others is moved; None where none is left.
 #[tactic(auto, using(crate::proofs::Collecting::none_taken))]
 pub fn take(offers: &mut Vec<Offer>) -> Option<Offer>
     ensures { Taken result (reverse offers.old.items) (reverse offers.new.items) }

@@ -42,7 +42,7 @@ pub struct Room {
 }
 
 impl Room {
-    /// No memory.
+    /// Room that holds no memory yet: the level opened in it takes all of its own.
     pub fn new(alloc: Global) -> Room
         ensures retrieval { result.access.retrieval ≡ None }
         ensures candidates { result.access.candidates.items ≡ [] }
@@ -54,7 +54,7 @@ impl Room {
         }
     }
 
-    /// Keeps the memory of a level that is over.
+    /// Keeps the memory of a level that is over, for the next level to be opened in it. What was kept before goes.
     pub fn keep(&mut self, level: Level)
         ensures access { self.new.access ≡ record self.old.access { retrieval = kept level.here self.old.access.retrieval } }
         ensures rows { self.new.rows.items ≡ level.outer }

@@ -46,7 +46,7 @@ pub struct Asked {
 }
 
 impl Asked {
-    /// The item of a place.
+    /// The FROM item of a place, from 0 on in FROM order.
     pub fn item(&self, place: usize) -> &Item
         requires { place < length self.now.items }
         ensures { result.now ≡ item_at self.now place }

@@ -157,7 +157,7 @@ impl Plan {
         self.stack.level(self.stack.waits()).here.awaited()
     }
 
-    /// Whether both sides of some retrieval run.
+    /// Whether both sides of some retrieval run, so that background steps may go beside those of a FETCH.
     pub fn is_building(&self) -> bool
         ensures { result ≡ stack_builds self.now.stack }
     {

@@ -66,7 +66,8 @@ fn any_building(levels: &[Level]) -> bool
     levels.iter().any(|level| level.is_building())
 }
 
-/// Opens the retrieval of the first FROM item.
+/// Nested loops before their first step: the retrieval of the first FROM item is opened, which reads leaves at most;
+/// those of the others are opened over its rows.
 #[tactic(auto, using(crate::proofs::Beginning::starts))]
 pub fn open<R: Reader>(
     alloc: Global,
@@ -195,7 +196,7 @@ impl Stack {
         }
     }
 
-    /// The level of a place.
+    /// The open level of a place, from 0 on in FROM order: the innermost one for a place behind the others.
     pub fn level(&self, at: usize) -> &Level
         ensures { result.now ≡ level_at self.now at }
     {

@@ -78,7 +78,7 @@ impl<S: Store + Reader<Ledger = Uncounted> + Drop> Served for Lent<S> {
     }
 }
 
-/// Lends a core to threads.
+/// Lends a core to threads: the same core, as turns of theirs may call it. `give_back` has it again.
 pub fn lend<S: Store + Reader<Ledger = Uncounted> + Drop>(core: Core<S>) -> Lent<S>
     requires { 0 ≤ core.engine.phase }
     ensures core { result.core ≡ core }
@@ -89,7 +89,7 @@ pub fn lend<S: Store + Reader<Ledger = Uncounted> + Drop>(core: Core<S>) -> Lent
     }
 }
 
-/// The core that was lent.
+/// The core that was lent. Whatever the threads did, its history is legal.
 pub fn give_back<S: Store + Reader<Ledger = Uncounted> + Drop>(lent: Lent<S>) -> Core<S>
     requires { 0 ≤ lent.core.engine.phase }
     ensures core { result ≡ lent.core }

@@ -5,7 +5,7 @@ ghost use Rattle.rv_loading.specs.Laid.{IsNarrow};
 use rv_value::{Bound, Key, NoMemory, Range, Value};
 use std::alloc::Global;
 
-/// All keys.
+/// The range of all keys, which has no bound.
 pub fn whole() -> Range
     ensures { IsNarrow result }
 {

@@ -97,7 +97,7 @@ fn count_cursors(cursors: &Items<OpenCursor>, session: u8) -> usize
         .count()
 }
 
-/// Takes a session's cursors away.
+/// Takes a session's cursors away, as the end of its transaction does.
 pub fn close_all(cursors: &mut Items<OpenCursor>, session: u8)
     ensures { cursors.new ≡ other_cursors cursors.old session }
 {

@@ -14,7 +14,7 @@ use rv_store::Paged;
 use rv_value::{Items, NoMemory, Record};
 use std::alloc::Global;
 
-/// The table of the first FROM item.
+/// The table of the first FROM item, over whose indexes SHOW may tell a trace.
 pub fn first_table(select: &Select) -> u32
     ensures { result ≡ table_of select.now }
 {

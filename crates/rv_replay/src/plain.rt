@@ -49,7 +49,7 @@ impl Model for PlainDatabase {
 }
 
 impl PlainDatabase {
-    /// The database without tables.
+    /// The database before the first call. Its store takes memory.
     pub fn new(alloc: Global) -> Result<PlainDatabase, NoMemory>
         ensures { IfOk result (λ p. p ≡ empty) }
     {
@@ -68,7 +68,7 @@ impl PlainDatabase {
         self.database.catalog()
     }
 
-    /// Lets go of what no transaction needs.
+    /// Lets go of the versions that no transaction needs. No later answer changes by it.
     pub fn sweep(&mut self)
         ensures { self.new ≡ self.old }
     {

@@ -27,7 +27,7 @@ pub fn same_reply(a: &Reply, b: &Reply) -> bool
     }
 }
 
-/// Whether two refusals are the same.
+/// Whether two refusals are the same, in their names and numbers too.
 pub fn same_refusal(a: &Refusal, b: &Refusal) -> bool
     ensures { IsTrue result ↔ (a.now ≡ b.now) }
 {

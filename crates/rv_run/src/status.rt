@@ -34,7 +34,7 @@ pub enum Over {
 }
 
 impl Status {
-    /// The program's exit code.
+    /// The program's exit code, from 0 where it is done to 6; docs/LANGUAGE.md has them as a table.
     pub fn code(&self) -> u8
         ensures { result ≡ status_code self.now }
     {

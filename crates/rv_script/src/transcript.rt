@@ -57,7 +57,7 @@ fn write_pieces<K: Sink>(
     write_next(sink, reply, b"\n")
 }
 
-/// Two pieces.
+/// Writes two pieces, one behind the other; nothing more is written where something has failed so far.
 pub fn write_two<K: Sink>(
     sink: &mut K,
     sofar: Result<(), Failed>,
@@ -70,7 +70,7 @@ pub fn write_two<K: Sink>(
     write_next(sink, front, second)
 }
 
-/// A word and a number.
+/// Writes a word and behind it a number in decimal digits, in one piece each.
 pub fn write_number<K: Sink>(
     sink: &mut K,
     sofar: Result<(), Failed>,

@@ -8,7 +8,7 @@ use itoa::Buffer;
 use rv_io::{Failed, Sink, write_next};
 use rv_value::{Value, Values};
 
-/// A row's text.
+/// Writes `row` and the values, as the reply to a FETCH has them in a transcript.
 pub fn write_row<K: Sink>(
     sink: &mut K,
     sofar: Result<(), Failed>,

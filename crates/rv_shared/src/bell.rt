@@ -22,7 +22,7 @@ impl Bell {
         }
     }
 
-    /// How often it has rung.
+    /// How often it has rung. Who rests hands in what it heard, so that no ring between is missed.
     pub(crate) fn rings(&self) -> u64 {
         self.rings.load(Ordering::SeqCst)
     }

@@ -98,7 +98,7 @@ pub struct GiveTurn {
 }
 
 impl GiveTurn {
-    /// A turn of the pass `maker`.
+    /// The turn in which the pass `maker` gives a piece that it has sieved.
     pub fn new(sieved: Sieved, maker: u32) -> GiveTurn
         ensures { result ≡ record { sieved = Some sieved; maker = maker } }
     {

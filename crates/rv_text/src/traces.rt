@@ -95,7 +95,7 @@ fn is_name(bytes: &[u8]) -> bool
     }
 }
 
-/// The name that bytes are.
+/// The name that bytes are: a capital letter, and then capital letters, digits and `_`. None where they are not so.
 pub fn name(bytes: &[u8]) -> Option<&str>
     ensures { MatchOption (option_copied result) (is_name bytes.now ≡ false) (λ name. (name ≡ bytes.now) × (is_name bytes.now ≡ true)) }
 {

@@ -31,7 +31,7 @@ fn number_in(text: &str) -> Option<u64>
     }
 }
 
-/// The number that bytes are.
+/// The number below 2^64 of which bytes are the digits as a transcript has them, without a leading zero; else None.
 pub fn number(digits: &[u8]) -> Option<u64>
     ensures { result ≡ number_at digits.now }
 {

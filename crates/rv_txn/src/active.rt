@@ -9,7 +9,8 @@ use rv_model::{Refusal, Transaction, Which};
 use rv_rows::Changes;
 use rv_value::Items;
 
-/// The place of the session's transaction.
+/// The place of the session's transaction among the active ones; None where it has begun none. A session has one at
+/// most.
 pub fn transaction_of(active: &Items<Transaction>, session: u8) -> Option<usize>
     ensures { result ≡ transaction_of active.now session }
 {
@@ -79,7 +80,7 @@ fn lower_of(number: u64, other: Option<u64>) -> u64
     }
 }
 
-/// The lowest number.
+/// The lowest number of an active transaction, which is the oldest; None where none is active.
 pub fn lowest(active: &[Transaction]) -> Option<u64>
     ensures { result ≡ lowest active.now }
 {
@@ -89,7 +90,7 @@ pub fn lowest(active: &[Transaction]) -> Option<u64>
     }
 }
 
-/// The lowest base, or the last commit.
+/// The lowest base of an active transaction, or the last commit where none is active: what a store has to keep.
 pub fn horizon(active: &[Transaction], last: u64) -> u64
     ensures { result ≡ horizon active.now last }
 {

@@ -272,7 +272,8 @@ impl Txns {
         }
     }
 
-    /// ROLLBACK. It takes no memory.
+    /// ROLLBACK: the session's transaction ends, and its changes go. It takes no memory, and is refused only where
+    /// there is none.
     #[tactic(auto, using(crate::proofs::Apart::apart_less))]
     pub fn rollback(&mut self, session: u8) -> Result<(), Refusal>
         ensures ok { OnOk result (rolled_back self.old session ≡ Ok self.new) }
