@@ -1,5 +1,5 @@
 //! Writes what the course of a retrieval has at every strategy, control and happening, what projections come to, and what
-//! judges answer to questions. The file `stdout` has what tools/try_judges.py finds by the rules in words.
+//! judges answer to questions. The file `stdout` has what tools/tables/try_judges.py finds by the rules in words.
 #![tactic(auto)]
 
 mod course;

@@ -1,7 +1,7 @@
 //! Drives plans over a plain store, one for each line that it reads: joins of one to four small tables with NULLs and equal
 //! rows, one table under several names, restrictions with OR over two places, and every kind of order, with pieces given late
 //! and judges that drop. Of each it writes how many combinations came, whether they came in order, and a number that tells them
-//! from most others. The file `stdout` has what tools/try_joins.py finds from all combinations, filtered and sorted.
+//! from most others. The file `stdout` has what tools/tables/try_joins.py finds from all combinations, filtered and sorted.
 mod case;
 mod drive;
 mod load;

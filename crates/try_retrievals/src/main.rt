@@ -2,7 +2,7 @@
 //! background steps between two foreground steps, and with pieces given late, twice and never; and some single ones. Of each
 //! it writes the rows in the order in which they came, whether they are the rows that qualify, each once and in order where an
 //! order is asked, and the trace. Of some searches it writes the rows and what was read. The file `stdout` has what
-//! tools/try_retrievals.py finds by the rules in words.
+//! tools/tables/try_retrievals.py finds by the rules in words.
 #![tactic(auto)]
 
 mod asked;

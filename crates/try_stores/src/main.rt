@@ -1,6 +1,6 @@
 //! Tries stores by hand and what reads them: lines say of rows, changes, versions, pages, nodes, key lists and the set of delivered
 //! rows what is done, and behind these come trees, two stores beside each other, scans, pieces, and views of a transaction. The
-//! file `stdout` has what tools/try_stores.py finds by the rules in words.
+//! file `stdout` has what tools/tables/try_stores.py finds by the rules in words.
 #![tactic(auto)]
 
 mod changes;

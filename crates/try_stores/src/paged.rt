@@ -1,7 +1,7 @@
 //! Gives a paged store and a plain one the same hundred commits of 128 changes each, with sweeps between them, and
 //! compares what both show: rows, fetched rows, sizes, entries leaf by leaf and exact estimates, at every snapshot that
 //! is kept. Then it writes the leaves and some estimates of the paged store's trees. The file `stdout` has what
-//! tools/try_paged.py finds by the rules in words.
+//! tools/tables/try_paged.py finds by the rules in words.
 ghost use Rattle.std.specs.Prelude.{◌<◌, ◌≤◌, OnOk};
 ghost use Rattle.try_stores.specs.Twins.{AreLaid};
 

@@ -1,5 +1,5 @@
 //! Drives joint scans over a plain store of eighty rows by a table: pieces are taken twice, given late, given twice,
-//! given to another scan and never given. The file `stdout` has what tools/try_pieces.py finds by the rules in words.
+//! given to another scan and never given. The file `stdout` has what tools/tables/try_pieces.py finds by the rules in words.
 ghost use Rattle.rv_loading.specs.Laid.{IsEmpty};
 
 mod acts;

@@ -1,6 +1,6 @@
 //! Drives each scan to its end over a plain store of eighty rows, at three snapshots, and tells what it gives; then it
 //! refuses each single call from the first to the sixtieth while the store is loaded and read, and tells whether the
-//! scans give the same. The file `stdout` has what tools/try_scans.py finds by the rules in words.
+//! scans give the same. The file `stdout` has what tools/tables/try_scans.py finds by the rules in words.
 ghost use Rattle.std.specs.Prelude.{IfOk};
 ghost use Rattle.rv_loading.specs.Laid.{IsEmpty, Laid};
 ghost use Rattle.rv_plain.specs.Kept as plain;

@@ -1,5 +1,5 @@
 //! Fills index trees with ascending entries, and tells how many nodes of each size each level then has, and for
-//! some ranges the estimate and what is read. The file `stdout` has what tools/try_trees.py finds by the rules in
+//! some ranges the estimate and what is read. The file `stdout` has what tools/tables/try_trees.py finds by the rules in
 //! words.
 mod fill;
 mod shape;

@@ -1,5 +1,5 @@
 //! Reads lines, each a word, a colon and what it says of values, restrictions, texts to be cut or offers, and writes each
-//! with what these answer. The file `stdout` has what tools/try_values.py finds by the rules in words.
+//! with what these answer. The file `stdout` has what tools/tables/try_values.py finds by the rules in words.
 #![tactic(auto)]
 
 mod alone;
