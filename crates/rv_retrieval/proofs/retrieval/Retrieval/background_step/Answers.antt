@@ -111,7 +111,7 @@ returns-clause-steady g c =
     let back : is_background v.control ≡ true = grind (arith, nat_tests, c.is_background.ensures, c.if-not-is_background.false) in
     let e = c.step_joint.ensures.same in
     let k = c.in_ok-step_joint.ensures.works c.if-not-branch.false in
-    let o = rw c.ended.ensures at c.accepted.ensures.obeys in
+    let o = rw c.ended-before.ensures at c.accepted.ensures.obeys in
     worked_steady _ _ _ v w c.accepted.new.self shown back e k o c.accepted.ensures.counts c.accepted.ensures.keeps.query c.accepted.ensures.front
 
 pub returns-clause-fits : goal.returns-clause-fits
@@ -142,7 +142,7 @@ returns-clause-does g c =
     let back : is_background v.control ≡ true = grind (arith, nat_tests, c.is_background.ensures, c.if-not-is_background.false) in
     let e = c.step_joint.ensures.same in
     let k = c.in_ok-step_joint.ensures.works c.if-not-branch.false in
-    let o = rw c.ended.ensures at c.accepted.ensures.obeys in
+    let o = rw c.ended-before.ensures at c.accepted.ensures.obeys in
     (refl, worked_does _ _ _ v w c.accepted.new.self shown back e k o)
 
 pub returns-clause-stays : goal.returns-clause-stays
@@ -163,7 +163,7 @@ returns-clause-tries g c =
     let back : is_background v.control ≡ true = grind (arith, nat_tests, c.is_background.ensures, c.if-not-is_background.false) in
     let e = c.step_joint.ensures.same in
     let k = c.in_ok-step_joint.ensures.works c.if-not-branch.false in
-    let o = rw c.ended.ensures at c.accepted.ensures.obeys in
+    let o = rw c.ended-before.ensures at c.accepted.ensures.obeys in
     (worked_near _ _ _ v w c.accepted.new.self shown c.args.steps.now c.step_joint.new.steps back e k o c.step_joint.ensures.reads c.requires.fits).1
 
 pub returns-clause-falls : goal.returns-clause-falls
@@ -174,7 +174,7 @@ returns-clause-falls g c back a =
     let on : is_background v.control ≡ true = grind (arith, nat_tests, c.is_background.ensures, c.if-not-is_background.false) in
     let e = c.step_joint.ensures.same in
     let k = c.in_ok-step_joint.ensures.works c.if-not-branch.false in
-    let o = rw c.ended.ensures at c.accepted.ensures.obeys in
+    let o = rw c.ended-before.ensures at c.accepted.ensures.obeys in
     (worked_near _ _ _ v w c.accepted.new.self shown c.args.steps.now c.step_joint.new.steps on e k o c.step_joint.ensures.reads c.requires.fits).0
 
 pub returns-then-not-branch-clause-steady : goal.returns-then-not-branch-clause-steady
