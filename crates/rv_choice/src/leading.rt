@@ -1,4 +1,4 @@
-ghost use Rattle.std.specs.Prelude.{◌≡◌, ◌<◌, length, IfOk, IfSome};
+ghost use Rattle.std.specs.Prelude.{◌≡◌, ◌<◌, length, IfSome, OnOk};
 ghost use Rattle.rv_judge.specs.Account.{first_guarantee};
 ghost use Rattle.rv_reader.specs.Shown.{CanRead};
 ghost use Rattle.rv_reader.specs.Tables.{IsTable};
@@ -13,9 +13,14 @@ use rv_scan::{Front, Fscan};
 use rv_value::{Duplicate, Items, NoMemory, Range};
 use std::alloc::Global;
 
-/// The scan of an index as the foreground.
-fn front(alloc: Global, query: &Query, candidate: &Candidate) -> Result<Front, NoMemory>
-    ensures { IfOk result (λ front. front ≡ front_begun query.now candidate.now) }
+/// Makes a foreground the scan of an index.
+fn lead(
+    alloc: Global,
+    query: &Query,
+    candidate: &Candidate,
+    front: &mut Front,
+) -> Result<(), NoMemory>
+    ensures { OnOk result (front.new ≡ front_begun query.now candidate.now) }
 {
     let range = candidate.range.copy(alloc)?;
     let columns = match candidate.columns.copy(alloc) {
@@ -25,37 +30,68 @@ fn front(alloc: Global, query: &Query, candidate: &Candidate) -> Result<Front, N
             return Err(fault);
         }
     };
-    let fetching = Fscan::new(alloc, query.table, candidate.index, query.snap, range);
-    Ok(Front::new(candidate.sufficient, columns, fetching))
+    front.renew(
+        candidate.sufficient,
+        columns,
+        query.table,
+        candidate.index,
+        query.snap,
+        range,
+    );
+    Ok(())
 }
 
-/// What stands for the foreground's scan where no index is scanned by the foreground. It is never stepped.
-fn nowhere(alloc: Global, query: &Query) -> Front
-    ensures { result ≡ front_begun query.now no_candidate }
+/// All keys.
+fn all_keys() -> Range
+    ensures { result ≡ no_candidate.range }
 {
-    let range = Range {
+    Range {
         low: None,
         high: None,
         starts: false,
-    };
-    let fetching = Fscan::new(alloc, query.table, 0, query.snap, range);
+    }
+}
+
+/// Makes a foreground what stands for it where no index is scanned by the foreground. It is never stepped.
+fn lead_nowhere(alloc: Global, query: &Query, front: &mut Front)
+    ensures { front.new ≡ front_begun query.now no_candidate }
+{
+    front.renew(
+        false,
+        Items::new(alloc),
+        query.table,
+        0,
+        query.snap,
+        all_keys(),
+    );
+}
+
+/// What stands for the foreground's scan before an index is chosen. It is never stepped.
+pub fn nowhere(alloc: Global, query: &Query) -> Front
+    ensures { result ≡ front_begun query.now no_candidate }
+{
+    let fetching = Fscan::new(alloc, query.table, 0, query.snap, all_keys());
     Front::new(false, Items::new(alloc), fetching)
 }
 
-/// The foreground's scan of the candidate in a place. Where there is none it is a scan of no index, which is never
-/// stepped.
+/// Makes a foreground the scan of the candidate in a place, in its memory. Where there is none it is a scan of no index,
+/// which is never stepped.
 pub fn foreground(
     alloc: Global,
     query: &Query,
     candidates: &[Candidate],
     place: Option<usize>,
-) -> Result<Front, NoMemory>
+    front: &mut Front,
+) -> Result<(), NoMemory>
     requires { IfSome place (λ at. at < length candidates.now) }
-    ensures { IfOk result (λ front. front ≡ front_begun query.now (front_candidate candidates.now place)) }
+    ensures { OnOk result (front.new ≡ front_begun query.now (front_candidate candidates.now place)) }
 {
     match place {
-        Some(at) => front(alloc, query, &candidates[at]),
-        None => Ok(nowhere(alloc, query)),
+        Some(at) => lead(alloc, query, &candidates[at], front),
+        None => {
+            lead_nowhere(alloc, query, front);
+            Ok(())
+        }
     }
 }
 

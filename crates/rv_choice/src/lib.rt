@@ -8,6 +8,6 @@ mod query;
 mod uniting;
 
 pub use choosing::{Background, Candidate, Choice, Role, candidates, choose, scans};
-pub use leading::{foreground, guarantee};
+pub use leading::{foreground, guarantee, nowhere};
 pub use query::{Goal2, Query, ordered};
 pub use uniting::members;

@@ -1,6 +1,5 @@
 -- What is chosen among a query's indexes can be opened.
-use Rattle.std.proofs.Common.{Box, ◌≡◌, ℕ, zero, suc, ◌<◌, ◌≤◌, ◌⊎◌, List, [], ◌∷◌, length, Bool, true, false, not, ◌&&◌, ◌||◌, refl, ap, sym, ◌∙◌, arith, subst, Some, None, Option, nat_eq, inl, inr, map, filter, cond, Result, Ok, Err, IfOk}
-use Rattle.std.specs.declared.alloc.Global.{Global}
+use Rattle.std.proofs.Common.{◌≡◌, ℕ, zero, suc, ◌<◌, ◌≤◌, ◌⊎◌, List, [], ◌∷◌, length, Bool, true, false, not, ◌&&◌, ◌||◌, refl, ap, sym, ◌∙◌, arith, subst, Some, None, Option, nat_eq, inl, inr, map, filter, cond}
 use Rattle.std.proofs.lemmas.Bool.{cases_Bool, lt-ltb}
 use Rattle.std.proofs.lemmas.Bool.Decides.{nat_tests}
 use Rattle.std.proofs.lemmas.List.Quantifiers.{position-Some}
@@ -29,7 +28,7 @@ use Rattle.rv_reader.proofs.Sorting.{entries_keys}
 use Rattle.rv_scan.specs.Alongs.{Along, Follows, left}
 use Rattle.rv_jscan.specs.declared.jscan.ScanPlan.{ScanPlan}
 use Rattle.rv_jscan.specs.Entries.{has_entry}
-use Rattle.rv_jscan.specs.Joint.{CanMake, no_plan, plan_at, under_way}
+use Rattle.rv_jscan.specs.Joint.{CanMake, no_plan, plan_at}
 use Rattle.rv_choice.specs.declared.query.Query.{Query}
 use Rattle.rv_choice.specs.declared.query.Goal2.{Goal2}
 use Rattle.rv_choice.specs.declared.query.Goal2.TheVariants.{FastFirst as Soon, TotalTime}
@@ -42,11 +41,11 @@ use Rattle.rv_choice.specs.Asked.{CanAsk, IsPlanned}
 use Rattle.rv_choice.specs.Choice.{AreScans, IsChosen, IsLeastOf, candidate_at, candidate_of, candidates_of, choice_of, is_scanned, leads, no_candidate, order_index, ordered_choice, plan_of, restricted_choice}
 use Rattle.rv_retrieval.specs.Fronts.{front_left}
 use Rattle.rv_scan.specs.Fronts.{Front, walk_of}
-use Rattle.rv_retrieval.specs.Opened.{Begun, has_scans, is_one}
+use Rattle.rv_retrieval.specs.Opened.{has_scans, is_one}
 use Rattle.rv_choice.specs.Leading.{front_begun, front_candidate, walk_begun}
 use Rattle.rv_retrieval.specs.Opens.{Opens, first_of}
 use Rattle.rv_final.specs.Rest.{qualifies_at}
-use Rattle.rv_retrieval.specs.Shape.{FrontFits, Shape, is_background, is_index_only, is_led, is_sorted}
+use Rattle.rv_retrieval.specs.Shape.{FrontFits, is_background, is_index_only, is_led, is_sorted}
 use Rattle.rv_choice.proofs.Suited.{range_suits}
 use Rattle.rv_choice.proofs.Choices.{IsCandidate, are_candidates, leads_begins, stand_all}
 use Rattle.rv_retrieval.proofs.Entered.{entered}
@@ -293,11 +292,3 @@ one_found Nothing h = absurd (cc)
 one_found (One i) h = (i, refl)
 one_found Each h = absurd (cc)
 one_found (EachBut i) h = absurd (cc)
-
-pub begun_back : {E : Type 0} (r : Result (Box Shape Global) E) (query : Query) (strategy : Strategy) (plans : List ScanPlan) (front : Front) (guaranteed cursor opening : ℕ) → is_background (first_of strategy (has_scans plans)) ≡ true → IfOk r (λ v. Begun query strategy plans front guaranteed cursor opening v.value) → IfOk r (λ v. is_background v.value.control ≡ true)
-begun_back (Ok v) query strategy plans front guaranteed cursor opening h b = ap is_background b.started ∙ h
-begun_back (Err x) query strategy plans front guaranteed cursor opening h b = tt
-
-pub begun_way : {E : Type 0} (r : Result (Box Shape Global) E) (query : Query) (strategy : Strategy) (plans : List ScanPlan) (front : Front) (guaranteed cursor opening : ℕ) → has_scans plans ≡ true → IfOk r (λ v. Begun query strategy plans front guaranteed cursor opening v.value) → IfOk r (λ v. under_way v.value.joint ≡ true)
-begun_way (Ok v) query strategy plans front guaranteed cursor opening h b = ap under_way b.joint ∙ ap (λ (x : Bool). x && true) h
-begun_way (Err x) query strategy plans front guaranteed cursor opening h b = tt

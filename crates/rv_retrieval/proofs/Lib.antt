@@ -27,6 +27,7 @@ pub mod Openings
 pub mod BothSides
 pub mod Fetches
 pub mod Shorts
+pub mod Began
 pub mod Waiting
 pub mod Remembering
 pub mod Worked

@@ -1,6 +1,5 @@
 -- The effort of a retrieval that was just made is at most the bound of the reader's lists.
-use Rattle.std.proofs.Common.{Box, ◌≡◌, ℕ, zero, suc, ◌+◌, ◌*◌, ◌<◌, ◌≤◌, List, [], ◌∷◌, length, filter, map, Bool, true, false, cond, ◌&&◌, ◌||◌, refl, ap, sym, ◌∙◌, arith, subst, Option, Some, None, Result, Ok, Err, IfOk, IfSome}
-use Rattle.std.specs.declared.alloc.Global.{Global}
+use Rattle.std.proofs.Common.{◌≡◌, ℕ, zero, suc, ◌+◌, ◌*◌, ◌<◌, ◌≤◌, List, [], ◌∷◌, length, filter, map, Bool, true, false, cond, ◌&&◌, ◌||◌, refl, ap, sym, ◌∙◌, arith, subst, Option, Some, None, IfSome}
 use Rattle.std.specs.Prelude.{if◌then◌else◌}
 use Rattle.std.specs.List.{sum_by}
 use Rattle.std.proofs.lemmas.List.{length-map}
@@ -10,7 +9,6 @@ use Rattle.std.proofs.lemmas.List.Sorted.{length_permutation, sum_by-IsPermutati
 use Rattle.std.proofs.lemmas.Bool.{lt-ltb}
 use Rattle.rv_value.proofs.Tests.{no_way, same_number}
 use Rattle.rv_value.proofs.Lists.{filter_length}
-use Rattle.rv_value.specs.declared.record.Record.{Record}
 use Rattle.rv_judge.specs.declared.events.Control.{Control}
 use Rattle.rv_judge.specs.declared.events.Control.TheVariants.{Building}
 use Rattle.rv_judge.specs.declared.events.Strategy.{Strategy}
@@ -194,17 +192,6 @@ begun_awaits query choice cs scans front guaranteed cursor opening v chosen s b 
   where
     both : (b : Bool) → b ≡ true → (b && true) ≡ true
     both b h = grind arith
-
-pub life_if : {E : Type 0} (r : Result (Box Shape Global) E) (query : Query) (shown : Shown) (choice : Choice) (scans : List ScanPlan) (front : Front) (cs : List Candidate) (guaranteed cursor opening : ℕ) → cs ≡ candidates_of query shown → CanAsk query shown → IsTable (shown.rows query.table query.snap) (shown.pages query.table query.snap) → IsChosen query.order query.goal cs choice → AreScans query.only cs choice.background scans → front ≡ front_begun query (front_candidate cs choice.front) → IfOk r (λ v. Begun query choice.strategy scans front guaranteed cursor opening v.value) → ((rows : List Record) (pages : ℕ) → IfOk r (λ v. pages_work v.value.last rows pages ≡ length rows + pages)) → IfOk r (λ v. effort v.value shown < life_of query shown)
-life_if (Ok v) query shown choice scans front cs guaranteed cursor opening e can table chosen s is b last = by cs (sym e) chosen s is
-  where
-    by : (cs : List Candidate) → candidates_of query shown ≡ cs → IsChosen query.order query.goal cs choice → AreScans query.only cs choice.background scans → front ≡ front_begun query (front_candidate cs choice.front) → effort v.value shown < life_of query shown
-    by cs e chosen s is = begun_life query shown choice scans front guaranteed cursor opening v.value can table (subst (λ (xs : List Candidate). IsChosen query.order query.goal xs choice) (sym e) chosen) (subst (λ (xs : List Candidate). AreScans query.only xs choice.background scans) (sym e) s) (subst (λ (xs : List Candidate). front ≡ front_begun query (front_candidate xs choice.front)) (sym e) is) b (last (shown.rows query.table query.snap) (shown.pages query.table query.snap))
-life_if (Err x) query shown choice scans front cs guaranteed cursor opening e can table chosen s is b last = tt
-
-pub awaits_if : {E : Type 0} (r : Result (Box Shape Global) E) (query : Query) (choice : Choice) (cs : List Candidate) (scans : List ScanPlan) (front : Front) (guaranteed cursor opening : ℕ) → IsChosen query.order query.goal cs choice → AreScans query.only cs choice.background scans → IfOk r (λ v. Begun query choice.strategy scans front guaranteed cursor opening v.value) → IfOk r (λ v. Awaiting v.value)
-awaits_if (Ok v) query choice cs scans front guaranteed cursor opening chosen s b = begun_awaits query choice cs scans front guaranteed cursor opening v.value chosen s b
-awaits_if (Err x) query choice cs scans front guaranteed cursor opening chosen s b = tt
 
 -- the foreground's index is one of the table's
 pub front_there : (order : List ℕ) (goal : Goal2) (cs : List Candidate) (choice : Choice) → IsChosen order goal cs choice → IfSome choice.front (λ (at : ℕ). at < length cs)

@@ -1,6 +1,5 @@
--- What is said of a retrieval that was begun, in the box in which it stands.
-use Rattle.std.proofs.Common.{Box, ◌≡◌, ℕ, List, Result, Ok, Err, IfOk, ap, sym, ◌∙◌, subst}
-use Rattle.std.specs.declared.alloc.Global.{Global}
+-- What is said of a retrieval that was begun.
+use Rattle.std.proofs.Common.{◌≡◌, ℕ, List, ap, sym, ◌∙◌, subst}
 use Rattle.rv_judge.specs.declared.events.Strategy.{Strategy}
 use Rattle.rv_judge.specs.Runs.{start_events}
 use Rattle.rv_reader.specs.Shown.{Shown}
@@ -17,11 +16,6 @@ use Rattle.rv_choice.specs.Leading.{front_begun, front_candidate}
 use Rattle.rv_retrieval.specs.Opened.{Begun, IsMade, Starts, has_scans}
 use Rattle.rv_retrieval.specs.Opens.{first_of}
 use Rattle.rv_retrieval.specs.Shape.{Shape}
-
--- what follows of each retrieval follows of the one in a box
-pub boxed_if : {E : Type 0} (r : Result (Box Shape Global) E) (P Q : Shape → Type 0) → ((v : Shape) → P v → Q v) → IfOk r (λ b. P b.value) → IfOk r (λ b. Q b.value)
-boxed_if (Ok b) P Q f p = f b.value p
-boxed_if (Err x) P Q f p = tt
 
 -- it is made of what was chosen
 pub begun_made : (query : Query) (shown : Shown) (choice : Choice) (cs : List Candidate) (scans : List ScanPlan) (front : Front) (guaranteed cursor opening : ℕ) (v : Shape) → cs ≡ candidates_of query shown → AreScans query.only cs choice.background scans → front ≡ front_begun query (front_candidate cs choice.front) → Begun query choice.strategy scans front guaranteed cursor opening v → IsMade query shown choice cursor opening v

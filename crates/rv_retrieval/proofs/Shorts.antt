@@ -1,6 +1,5 @@
 -- A short index that is scanned at opening leaves few records to be fetched.
-use Rattle.std.proofs.Common.{Box, ◌≡◌, ◌⊎◌, IsSome, ℕ, zero, suc, ◌<◌, ◌≤◌, List, [], ◌∷◌, ◌++◌, length, filter, map, Bool, true, false, cond, not, ◌&&◌, ◌||◌, refl, ap, sym, ◌∙◌, arith, subst, inl, inr, Option, Some, None, is_some, IsPermutation, Result, Ok, Err, IfOk, nat_eq, nat_le, nat_lt}
-use Rattle.std.specs.declared.alloc.Global.{Global}
+use Rattle.std.proofs.Common.{◌≡◌, ◌⊎◌, IsSome, ℕ, zero, suc, ◌<◌, ◌≤◌, List, [], ◌∷◌, ◌++◌, length, filter, map, Bool, true, false, cond, not, ◌&&◌, ◌||◌, refl, ap, sym, ◌∙◌, arith, subst, inl, inr, Option, Some, None, is_some, IsPermutation, nat_eq, nat_le, nat_lt}
 use Rattle.std.specs.Prelude.{if◌then◌else◌}
 use Rattle.std.specs.List.{AllByRecursion, IsDistinct, list_any, slice_index_or, sum_by}
 use Rattle.std.proofs.lemmas.Bool.{cases_Bool, eqb-true, or_from, or_right}
@@ -295,16 +294,12 @@ short_entries query shown choice scans can chosen s right some =
     let few = right_few shown query.snap (candidate_at cs at) (all_at (IsRight shown query.snap) cs at no_candidate right below) found.1.1 in
     omega arith
 
-short_keys : (query : Query) (shown : Shown) (choice : Choice) (scans : List ScanPlan) (front : Front) (guaranteed cursor opening : ℕ) (v : Shape) → CanAsk query shown → IsChosen query.order query.goal (candidates_of query shown) choice → AreScans query.only (candidates_of query shown) choice.background scans → AllByRecursion (IsRight shown query.snap) (candidates_of query shown) → Begun query choice.strategy scans front guaranteed cursor opening v → has_short query shown ≡ true → keys_most v.joint shown ≤ 20
+pub short_keys : (query : Query) (shown : Shown) (choice : Choice) (scans : List ScanPlan) (front : Front) (guaranteed cursor opening : ℕ) (v : Shape) → CanAsk query shown → IsChosen query.order query.goal (candidates_of query shown) choice → AreScans query.only (candidates_of query shown) choice.background scans → AllByRecursion (IsRight shown query.snap) (candidates_of query shown) → Begun query choice.strategy scans front guaranteed cursor opening v → has_short query shown ≡ true → keys_most v.joint shown ≤ 20
 short_keys query shown choice scans front guaranteed cursor opening v can chosen s right b some =
     let few = short_entries query shown choice scans can chosen s right some in
     let first = entries_first scans shown query.snap in
     let is = ap (λ (j : Joint). keys_most j shown) b.joint in
     omega arith
-
-pub few_if : {E : Type 0} (r : Result (Box Shape Global) E) (query : Query) (shown : Shown) (choice : Choice) (scans : List ScanPlan) (front : Front) (cs : List Candidate) (guaranteed cursor opening : ℕ) → cs ≡ candidates_of query shown → CanAsk query shown → IsChosen query.order query.goal cs choice → AreScans query.only cs choice.background scans → AllByRecursion (IsRight shown query.snap) cs → IfOk r (λ v. Begun query choice.strategy scans front guaranteed cursor opening v.value) → has_short query shown ≡ true → IfOk r (λ v. keys_most v.value.joint shown ≤ 20)
-few_if (Ok v) query shown choice scans front cs guaranteed cursor opening e can chosen s right b some = short_keys query shown choice scans front guaranteed cursor opening v.value can (subst (λ (xs : List Candidate). IsChosen query.order query.goal xs choice) e chosen) (subst (λ (xs : List Candidate). AreScans query.only xs choice.background scans) e s) (subst (AllByRecursion (IsRight shown query.snap)) e right) b some
-few_if (Err x) query shown choice scans front cs guaranteed cursor opening e can chosen s right b some = tt
 
 pub short_one : (query : Query) (shown : Shown) (choice : Choice) (order : List ℕ) (cs : List Candidate) → order ≡ query.order → cs ≡ candidates_of query shown → IsChosen order query.goal cs choice → has_short query shown ≡ true → is_one choice.background ≡ true
 short_one query shown choice order cs o e chosen some = ap is_one (short_background query cs choice (subst (λ (xs : List ℕ). IsChosen xs query.goal cs choice) o chosen) (ap (list_any (plays Short)) e ∙ some)).1.2

@@ -1,6 +1,5 @@
 -- What was chosen begins a run of the course.
-use Rattle.std.proofs.Common.{Box, ◌≡◌, ◌∙◌, ℕ, ◌<◌, ◌≤◌, List, [], ◌∷◌, ◌++◌, Bool, true, false, cond, ◌&&◌, ◌||◌, Option, Some, None, Result, Ok, Err, IfOk, IsSome, filter, map, length, nat_lt, nat_eq, refl, ap, sym, subst, arith, inl, inr}
-use Rattle.std.specs.declared.alloc.Global.{Global}
+use Rattle.std.proofs.Common.{◌≡◌, ◌∙◌, ℕ, ◌<◌, ◌≤◌, List, [], ◌∷◌, ◌++◌, Bool, true, false, cond, ◌&&◌, ◌||◌, Option, Some, None, IsSome, filter, map, length, nat_lt, nat_eq, refl, ap, sym, subst, arith, inl, inr}
 use Rattle.std.specs.List.{AllByRecursion, list_all}
 use Rattle.std.specs.Prelude.{if◌then◌else◌}
 use Rattle.std.proofs.lemmas.Bool.{cases_Bool, or_parts, lt-ltb, or_from, or_right, or_left, and_from, eqb-true}
@@ -45,7 +44,6 @@ use Rattle.rv_retrieval.specs.Shape.{Shape, is_background, is_building}
 use Rattle.rv_retrieval.specs.Telling.{events_for, index_of}
 use Rattle.rv_judge.specs.Tracing.{counted, new_trace, with_events}
 use Rattle.rv_retrieval.proofs.Chosen.{filter_some, one_found}
-use Rattle.rv_retrieval.proofs.Made.{begun_starts}
 use Rattle.rv_retrieval.proofs.Tellings.{counted_tells, runs_tells}
 
 -- The indexes planned are each planned once.
@@ -277,27 +275,15 @@ first_told IndexOnly [] j e z has = refl
 first_told IndexOnly (p ∷ plans) j e z has = subst (λ (b : Bool). first_events (first_of IndexOnly b) j ≡ start_events IndexOnly (indexes_of (p ∷ plans))) (sym (lt-ltb 0 (length (p ∷ plans)) (omega arith))) (first_scan j Building p plans e z refl)
 first_told Union plans j e z has = absurd has
 
-begun_told : (v : Shape) (query : Query) (st : Strategy) (plans : List ScanPlan) (front : Front) (guaranteed cursor opening : ℕ) → Begun query st plans front guaranteed cursor opening v → v.trace ≡ start_told (record v { trace = new_trace st }) → HasScans st (indexes_of plans) → v.trace.events.items ≡ start_events v.strategy (indexes_of v.joint.plans)
+pub begun_told : (v : Shape) (query : Query) (st : Strategy) (plans : List ScanPlan) (front : Front) (guaranteed cursor opening : ℕ) → Begun query st plans front guaranteed cursor opening v → v.trace ≡ start_told (record v { trace = new_trace st }) → HasScans st (indexes_of plans) → v.trace.events.items ≡ start_events v.strategy (indexes_of v.joint.plans)
 begun_told v query st plans front guaranteed cursor opening b told has =
     let j : Joint = begun query.table query.snap plans cursor opening in
     rw (told, b.chosen, b.joint, b.started) (first_told st plans j refl refl has)
 
-pub starts_if : {E : Type 0} (r : Result (Box Shape Global) E) (query : Query) (st : Strategy) (plans : List ScanPlan) (front : Front) (guaranteed cursor opening : ℕ) → HasScans st (indexes_of plans) → IfOk r (λ v. Begun query st plans front guaranteed cursor opening v.value) → IfOk r (λ v. v.value.trace ≡ start_told (record v.value { trace = new_trace st })) → IfOk r (λ v. Starts cursor opening v.value)
-starts_if (Ok v) query st plans front guaranteed cursor opening has b told = begun_starts query st plans front guaranteed cursor opening v.value b (begun_told v.value query st plans front guaranteed cursor opening b told has)
-starts_if (Err x) query st plans front guaranteed cursor opening has b told = tt
-
-begun_tells : (v : Shape) (query : Query) (st : Strategy) (plans : List ScanPlan) (front : Front) (guaranteed cursor opening : ℕ) → Begun query st plans front guaranteed cursor opening v → v.trace ≡ start_told (record v { trace = new_trace st }) → length plans ≤ 8 → HasScans st (indexes_of plans) → EachOnce (indexes_of plans) → list_all (λ i. has_index i (indexes_asked query)) (indexes_of plans) ≡ true → Tells v
+pub begun_tells : (v : Shape) (query : Query) (st : Strategy) (plans : List ScanPlan) (front : Front) (guaranteed cursor opening : ℕ) → Begun query st plans front guaranteed cursor opening v → v.trace ≡ start_told (record v { trace = new_trace st }) → length plans ≤ 8 → HasScans st (indexes_of plans) → EachOnce (indexes_of plans) → list_all (λ i. has_index i (indexes_asked query)) (indexes_of plans) ≡ true → Tells v
 begun_tells v query st plans front guaranteed cursor opening b told few has once known =
     let j : Joint = begun query.table query.snap plans cursor opening in
     rw (told, b.asked, b.chosen, b.joint, b.started) (tells_first st plans (indexes_asked query) j refl refl few has once known)
-
-pub begun_tells_if : {E : Type 0} (r : Result (Box Shape Global) E) (query : Query) (st : Strategy) (plans : List ScanPlan) (front : Front) (guaranteed cursor opening : ℕ) → length plans ≤ 8 → HasScans st (indexes_of plans) → EachOnce (indexes_of plans) → list_all (λ i. has_index i (indexes_asked query)) (indexes_of plans) ≡ true → IfOk r (λ v. Begun query st plans front guaranteed cursor opening v.value) → IfOk r (λ v. v.value.trace ≡ start_told (record v.value { trace = new_trace st })) → IfOk r (λ v. Tells v.value)
-begun_tells_if (Ok v) query st plans front guaranteed cursor opening few has once known b told = begun_tells v.value query st plans front guaranteed cursor opening b told few has once known
-begun_tells_if (Err x) query st plans front guaranteed cursor opening few has once known b told = tt
-
-pub short_if : {E : Type 0} (r : Result (Box Shape Global) E) (query : Query) (st : Strategy) (plans : List ScanPlan) (front : Front) (guaranteed cursor opening : ℕ) → length plans ≤ 1 → IfOk r (λ v. Begun query st plans front guaranteed cursor opening v.value) → IfOk r (λ v. length v.value.joint.plans ≤ 1)
-short_if (Ok v) query st plans front guaranteed cursor opening short b = subst (λ (j : Joint). length j.plans ≤ 1) (sym b.joint) short
-short_if (Err x) query st plans front guaranteed cursor opening short b = tt
 
 -- What was opened tells a run.
 

@@ -6,6 +6,7 @@ pub mod Telling
 pub mod Accounts
 pub mod Opens
 pub mod Opened
+pub mod Began
 pub mod Rulings
 pub mod Runs
 pub mod Stepping

@@ -3,13 +3,13 @@ ghost use Rattle.rv_reader.specs.Shown.{Shown};
 ghost use Rattle.rv_jscan.specs.Joint.{CanTake, JointFits, leaves_ahead, under_way};
 ghost use Rattle.rv_choice.specs.Asked.{CanAsk};
 ghost use Rattle.rv_choice.specs.Choice.{IsChosen, IsRight, candidates_of};
-ghost use Rattle.rv_retrieval.specs.Opened.{Begun, Completes, IsMade, OnlyLists, Opened, RunsOut, SameScans, Scanned, ScansFirst, Starts, is_one, start_told};
-ghost use Rattle.rv_choice.specs.Leading.{guarantee_of};
+ghost use Rattle.rv_retrieval.specs.Opened.{Begun, Completes, OnlyLists, Opened, RunsOut, SameScans, Scanned, ScansFirst, is_one, start_told};
+ghost use Rattle.rv_retrieval.specs.Began.{Began};
 ghost use Rattle.rv_retrieval.specs.Opens.{Opens};
 ghost use Rattle.rv_final.specs.Rest.{qualifying};
 ghost use Rattle.rv_retrieval.specs.Runs.{Tells};
 ghost use Rattle.rv_retrieval.specs.Shape.{RetrievalFits, is_background, rest};
-ghost use Rattle.rv_judge.specs.Tracing.{CountsAll, NothingCounted, new_trace};
+ghost use Rattle.rv_judge.specs.Tracing.{CountsAll, new_trace};
 ghost use Rattle.rv_judge.specs.Counting.{reads};
 ghost use Rattle.rv_retrieval.specs.Effort.{Awaiting, back_work, effort, life_of};
 ghost use Rattle.rv_scan.specs.Places.{work as pages_work};
@@ -18,23 +18,12 @@ ghost use Rattle.std.specs.List.{AllByRecursion};
 ghost use Rattle.rv_retrieval.specs.Short.{OnlyLeaves, Settled, fetches_left, has_short, keys_most};
 
 use crate::retrieval::Retrieval;
-use rv_choice::{
-    Background, Candidate, Choice, Query, candidates, choose, foreground, guarantee, scans,
-};
+use rv_choice::{Background, Candidate, Choice, Query, candidates, choose};
 use rv_jscan::ScanPlan;
 use rv_judge::{Event, Steps, Strategy};
 use rv_reader::Reader;
-use rv_scan::Front;
 use rv_value::NoMemory;
 use std::alloc::Global;
-
-/// The planned scans of a retrieval that is over, for their memory.
-fn plans_of(alloc: Global, over: &mut Option<Box<Retrieval>>) -> Vec<ScanPlan> {
-    match over {
-        Some(over) => over.take_plans(),
-        None => Vec::new(alloc),
-    }
-}
 
 impl Retrieval {
     /// Writes the first control into the trace, and the scan with which a background begins.
@@ -47,32 +36,27 @@ impl Retrieval {
         }
     }
 
-    /// A retrieval under a strategy, with these background scans and this scan of an index as the foreground, which is
-    /// used where the strategy is sorted or index-only. It has read nothing. It takes the place of one that is over.
+    /// Begins under a strategy, with these background scans and the foreground that stands there, which is used where the
+    /// strategy is sorted or index-only. It has read nothing.
     fn begin(
-        alloc: Global,
-        over: Option<Box<Retrieval>>,
-        query: Query,
+        &mut self,
         strategy: Strategy,
         scans: Vec<ScanPlan>,
-        front: Front,
         guaranteed: u64,
         cursor: u64,
         opening: u64,
-    ) -> Result<Box<Retrieval>, NoMemory>
+    ) -> Result<(), NoMemory>
         requires { length scans.items ≤ 8 }
-        ensures begun { IfOk result (λ r. Begun query strategy scans.items front guaranteed cursor opening r.value) }
-        ensures told { IfOk result (λ r. r.value.trace ≡ start_told (record r.value { trace = new_trace strategy })) }
-        ensures fits { (shown : Shown) → Opens query strategy scans.items front shown → IfOk result (λ r. RetrievalFits r.value shown) }
-        ensures rest { (shown : Shown) → Opens query strategy scans.items front shown → IfOk result (λ r. rest r.value shown ≡ qualifying query.only (shown.rows query.table query.snap)) }
-        ensures unborrowed { IfOk result (λ r. r.value.borrowed ≡ 0) }
-        ensures last { (rows : List OneRecord) (pages : ℕ) → IfOk result (λ r. pages_work r.value.last rows pages ≡ length rows + pages) }
+        ensures begun { OnOk result (Begun self.old.query strategy scans.items self.old.front guaranteed cursor opening self.new) }
+        ensures told { OnOk result (self.new.trace ≡ start_told (record self.new { trace = new_trace strategy })) }
+        ensures fits { OnOk result ((shown : Shown) → Opens self.old.query strategy scans.items self.old.front shown → RetrievalFits self.new shown) }
+        ensures rest { OnOk result ((shown : Shown) → Opens self.old.query strategy scans.items self.old.front shown → rest self.new shown ≡ qualifying self.old.query.only (shown.rows self.old.query.table self.old.query.snap)) }
+        ensures unborrowed { OnOk result (self.new.borrowed ≡ 0) }
+        ensures last { OnOk result ((rows : List OneRecord) (pages : ℕ) → pages_work self.new.last rows pages ≡ length rows + pages) }
     {
-        let mut retrieval = Retrieval::make_in(
-            alloc, over, query, strategy, scans, front, guaranteed, cursor, opening,
-        )?;
-        retrieval.tell_start();
-        Ok(retrieval)
+        self.renew(strategy, scans, guaranteed, cursor, opening)?;
+        self.tell_start();
+        Ok(())
     }
 
     /// Takes up the next leaf; false where none is awaited.
@@ -183,68 +167,60 @@ impl Retrieval {
         }
     }
 
-    /// A retrieval with what was chosen. It has read nothing.
-    fn chosen<R: Reader>(
-        alloc: Global,
+    /// Begins with what was chosen. It has read nothing.
+    fn begin_chosen<R: Reader>(
+        &mut self,
         reader: &R,
-        over: Option<Box<Retrieval>>,
-        query: Query,
         candidates: &[Candidate],
         choice: Choice,
         cursor: u64,
         opening: u64,
-    ) -> Result<Box<Retrieval>, NoMemory>
-        requires can { CanAsk query (R.shown reader.now) }
-        requires candidates { candidates.now ≡ candidates_of query (R.shown reader.now) }
-        requires choice { IsChosen query.order query.goal candidates.now choice }
-        requires right { AllByRecursion (IsRight (R.shown reader.now) query.snap) candidates.now }
-        ensures made { IfOk result (λ r. IsMade query (R.shown reader.now) choice cursor opening r.value) }
-        ensures started { IfOk result (λ r. Starts cursor opening r.value) }
-        ensures bound { IfOk result (λ r. r.value.guaranteed ≡ guarantee_of query (R.shown reader.now) candidates.now choice) }
-        ensures counts { IfOk result (λ r. NothingCounted r.value.trace) }
-        ensures back { is_one choice.background ≡ true → IfOk result (λ r. is_background r.value.control ≡ true) }
-        ensures way { is_one choice.background ≡ true → IfOk result (λ r. under_way r.value.joint ≡ true) }
-        ensures tells { IfOk result (λ r. Tells r.value) }
-        ensures short { is_one choice.background ≡ true → IfOk result (λ r. length r.value.joint.plans ≤ 1) }
-        ensures fits { IfOk result (λ r. RetrievalFits r.value (R.shown reader.now)) }
-        ensures rest { IfOk result (λ r. rest r.value (R.shown reader.now) ≡ qualifying query.only ((R.shown reader.now).rows query.table query.snap)) }
-        ensures unborrowed { IfOk result (λ r. r.value.borrowed ≡ 0) }
-        ensures life { IfOk result (λ r. effort r.value (R.shown reader.now) < life_of query (R.shown reader.now)) }
-        ensures awaiting { IfOk result (λ r. Awaiting r.value) }
-        ensures unlisted { IfOk result (λ r. r.value.joint.list ≡ None) }
-        ensures few { has_short query (R.shown reader.now) ≡ true → IfOk result (λ r. keys_most r.value.joint (R.shown reader.now) ≤ 20) }
+    ) -> Result<(), NoMemory>
+        requires can { CanAsk self.old.query (R.shown reader.now) }
+        requires candidates { candidates.now ≡ candidates_of self.old.query (R.shown reader.now) }
+        requires choice { IsChosen self.old.query.order self.old.query.goal candidates.now choice }
+        requires right { AllByRecursion (IsRight (R.shown reader.now) self.old.query.snap) candidates.now }
+        ensures { OnOk result (Began self.old.query (R.shown reader.now) candidates.now choice cursor opening self.new) }
     {
-        let mut over = over;
-        let plans = plans_of(alloc, &mut over);
-        let scans = match scans(alloc, &query.only, candidates, choice.background, plans) {
-            Ok(scans) => scans,
-            Err(fault) => {
-                drop(over);
-                drop(query);
-                return Err(fault);
-            }
-        };
-        let front = match foreground(alloc, &query, candidates, choice.front) {
-            Ok(front) => front,
-            Err(fault) => {
-                drop(scans);
-                drop(over);
-                drop(query);
-                return Err(fault);
-            }
-        };
-        let guaranteed = guarantee(reader, &query, candidates, choice);
-        Retrieval::begin(
-            alloc,
-            over,
-            query,
-            choice.strategy,
-            scans,
-            front,
-            guaranteed,
-            cursor,
-            opening,
-        )
+        let guaranteed = self.guarantee(reader, candidates, choice);
+        self.lead(candidates, choice.front)?;
+        let scans = self.scans(candidates, choice.background)?;
+        self.begin(choice.strategy, scans, guaranteed, cursor, opening)?;
+        Ok(())
+    }
+
+    /// Begins with what was chosen for the query that it has, and scans a single index at once.
+    fn open_in<R: Reader>(
+        &mut self,
+        reader: &R,
+        candidates: &[Candidate],
+        choice: Choice,
+        cursor: u64,
+        opening: u64,
+        steps: &mut Steps<R::Ledger>,
+    ) -> Result<(), NoMemory>
+        requires can { CanAsk self.old.query (R.shown reader.now) }
+        requires candidates { candidates.now ≡ candidates_of self.old.query (R.shown reader.now) }
+        requires choice { IsChosen self.old.query.order self.old.query.goal candidates.now choice }
+        requires right { AllByRecursion (IsRight (R.shown reader.now) self.old.query.snap) candidates.now }
+        ensures opened { OnOk result (Opened self.old.query (R.shown reader.now) cursor opening self.new) }
+        ensures counts { OnOk result (CountsAll self.new.trace steps.old steps.new) }
+        ensures tells { OnOk result (Tells self.new) }
+        ensures fits { OnOk result (RetrievalFits self.new (R.shown reader.now)) }
+        ensures rest { OnOk result (rest self.new (R.shown reader.now) ≡ qualifying self.old.query.only ((R.shown reader.now).rows self.old.query.table self.old.query.snap)) }
+        ensures life { OnOk result (reads steps.new + effort self.new (R.shown reader.now) ≤ reads steps.old + life_of self.old.query (R.shown reader.now)) }
+        ensures effort { OnOk result (effort self.new (R.shown reader.now) ≤ life_of self.old.query (R.shown reader.now)) }
+        ensures reads { reads steps.new ≤ reads steps.old + life_of self.old.query (R.shown reader.now) }
+        ensures awaiting { OnOk result (Awaiting self.new) }
+        ensures short { OnOk result (has_short self.old.query (R.shown reader.now) ≡ true → Settled self.new × (fetches_left self.new (R.shown reader.now) ≤ 20)) }
+        ensures only { OnlyLeaves steps.old steps.new }
+        ensures unread { has_short self.old.query (R.shown reader.now) ≡ false → steps.new ≡ steps.old }
+    {
+        let before = steps.counts();
+        self.begin_chosen(reader, candidates, choice, cursor, opening)?;
+        self.settle(choice.background, reader, steps)?;
+        self.count(before, steps.counts());
+        Ok(())
     }
 
     /// Opens a retrieval with what was chosen for a query, as `open` does, in the place of one that is over, where one is
@@ -277,16 +253,10 @@ impl Retrieval {
         ensures only { OnlyLeaves steps.old steps.new }
         ensures unread { has_short query (R.shown reader.now) ≡ false → steps.new ≡ steps.old }
     {
-        let before = steps.counts();
-        let mut retrieval = Retrieval::chosen(
-            alloc, reader, over, query, candidates, choice, cursor, opening,
-        )?;
-        let made = &mut *retrieval;
-        match made.settle(choice.background, reader, steps) {
-            Ok(()) => {
-                made.count(before, steps.counts());
-                Ok(retrieval)
-            }
+        let mut retrieval = Retrieval::place(alloc, over, query)?;
+        let placed = &mut *retrieval;
+        match placed.open_in(reader, candidates, choice, cursor, opening, steps) {
+            Ok(()) => Ok(retrieval),
             Err(fault) => {
                 drop(retrieval);
                 Err(fault)

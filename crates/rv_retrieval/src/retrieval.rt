@@ -2,7 +2,7 @@ ghost use Rattle.std.specs.Prelude.{if◌then◌else◌, ◌≡◌, ℕ, List, �
 ghost use Rattle.std.specs.Option.{option_copied};
 ghost use Rattle.rv_keylist.specs.Keys.{has_key};
 ghost use Rattle.rv_reader.specs.Shown.{Shown, CanRead};
-ghost use Rattle.rv_reader.specs.Tables.{row_at};
+ghost use Rattle.rv_reader.specs.Tables.{IsTable, row_at};
 ghost use Rattle.rv_scan.specs.Alongs.{Follows, looked};
 ghost use Rattle.rv_scan.specs.Places.{Fits as PlaceFits, PageReads, PageTurns, unseen};
 ghost use Rattle.rv_scan.specs.Due.{HaveColumns};
@@ -14,6 +14,8 @@ ghost use Rattle.rv_retrieval.specs.Accounts.{NextBorrowed, account_of};
 ghost use Rattle.rv_retrieval.specs.Fronts.{front_left};
 ghost use Rattle.rv_scan.specs.Fronts.{SameFront, walk_of, FrontMayRead, FrontReads};
 ghost use Rattle.rv_retrieval.specs.Given.{awaited, more_behind};
+ghost use Rattle.rv_choice.specs.Choice.{AreScans};
+ghost use Rattle.rv_choice.specs.Leading.{front_begun, front_candidate, guarantee_of};
 ghost use Rattle.rv_retrieval.specs.Opened.{Made, has_scans};
 ghost use Rattle.rv_retrieval.specs.Opens.{first_of};
 ghost use Rattle.rv_judge.specs.Runs.{Allowed};
@@ -32,7 +34,7 @@ ghost use Rattle.rv_scan.specs.Reads.{OneAtMost};
 ghost use Rattle.rv_judge.specs.Counting.{record_read};
 ghost use Rattle.rv_retrieval.specs.Short.{OnlyLeaves, scan_fetches};
 
-use rv_choice::Query;
+use rv_choice::{Background, Candidate, Choice, Query, foreground, guarantee, nowhere, scans};
 use rv_final::{Final, examine};
 use rv_jscan::{Given, Jscan, PieceId, ScanPlan, Sieved, Taken};
 use rv_judge::{Control, Counts, Event, Facts, Steps, Strategy, Trace, project};
@@ -493,50 +495,93 @@ impl Retrieval {
 }
 
 impl Retrieval {
-    /// A retrieval under a strategy, with these background scans and this scan of an index as the foreground, which is
-    /// used where the strategy is sorted or index-only. It has read nothing, and nothing stands in its trace. It is put into a
-    /// box at once, since it is large and goes through many hands.
-    fn make(
-        alloc: Global,
-        query: Query,
-        strategy: Strategy,
-        scans: Vec<ScanPlan>,
-        front: Front,
-        guaranteed: u64,
-        cursor: u64,
-        opening: u64,
-    ) -> Result<Box<Retrieval>, NoMemory>
-        requires { length scans.items ≤ 8 }
-        ensures { IfOk result (λ r. Made query strategy scans.items front guaranteed cursor opening r.value) }
+    /// A retrieval of a query that has not begun. It is put into a box at once, since it is large.
+    fn blank(alloc: Global, query: Query) -> Result<Box<Retrieval>, NoMemory>
+        ensures { IfOk result (λ r. r.value.query ≡ query) }
     {
-        let delivered = match room(alloc, strategy) {
-            Ok(delivered) => delivered,
-            Err(fault) => {
-                drop(query);
-                drop(scans);
-                drop(front);
-                return Err(fault);
-            }
-        };
-        let control = first_control(strategy, has_scans(scans.as_slice()));
+        let front = nowhere(alloc, &query);
         let ending = Final::new(alloc, query.table, query.snap);
-        let joint = Jscan::new(alloc, query.table, query.snap, scans, cursor, opening);
-        let trace = Trace::new(strategy);
+        let joint = Jscan::new(alloc, query.table, query.snap, Vec::new(alloc), 0, 0);
         let retrieval = Retrieval {
             alloc,
             query,
-            strategy,
-            control,
+            strategy: Strategy::Table,
+            control: Control::FinalTable,
             joint,
             front,
-            delivered,
+            delivered: None,
             borrowed: 0,
             ending,
-            guaranteed,
-            trace,
+            guaranteed: 0,
+            trace: Trace::new(Strategy::Table),
         };
         let boxed = Box::new(alloc, retrieval)?;
         Ok(boxed)
+    }
+
+    fn ask(&mut self, query: Query)
+        ensures { self.new ≡ record self.old { query = query } }
+    {
+        self.query = query;
+    }
+
+    /// A retrieval of a query that is still to begin, in the box of one that is over, where there is one.
+    pub(crate) fn place(
+        alloc: Global,
+        over: Option<Box<Retrieval>>,
+        query: Query,
+    ) -> Result<Box<Retrieval>, NoMemory>
+        ensures { IfOk result (λ r. r.value.query ≡ query) }
+    {
+        match over {
+            Some(over) => {
+                let mut boxed = over;
+                boxed.ask(query);
+                Ok(boxed)
+            }
+            None => Retrieval::blank(alloc, query),
+        }
+    }
+
+    /// The cost at which it can be finished without a background.
+    pub(crate) fn guarantee<R: Reader>(
+        &self,
+        reader: &R,
+        candidates: &[Candidate],
+        choice: Choice,
+    ) -> u64
+        requires can { CanRead (R.shown reader.now) self.now.query.table self.now.query.snap }
+        requires place { IfSome choice.front (λ at. at < length candidates.now) }
+        ensures value { result ≡ guarantee_of self.now.query (R.shown reader.now) candidates.now choice }
+        ensures table { IsTable ((R.shown reader.now).rows self.now.query.table self.now.query.snap) ((R.shown reader.now).pages self.now.query.table self.now.query.snap) }
+    {
+        guarantee(reader, &self.query, candidates, choice)
+    }
+
+    /// Makes the foreground the scan of the candidate in a place.
+    pub(crate) fn lead(
+        &mut self,
+        candidates: &[Candidate],
+        place: Option<usize>,
+    ) -> Result<(), NoMemory>
+        requires { IfSome place (λ at. at < length candidates.now) }
+        ensures same { self.new ≡ record self.old { front = self.new.front } }
+        ensures front { OnOk result (self.new.front ≡ front_begun self.old.query (front_candidate candidates.now place)) }
+    {
+        foreground(self.alloc, &self.query, candidates, place, &mut self.front)
+    }
+
+    /// The scans that the background begins with, in the memory of those planned before, which are none then.
+    pub(crate) fn scans(
+        &mut self,
+        candidates: &[Candidate],
+        background: Background,
+    ) -> Result<Vec<ScanPlan>, NoMemory>
+        ensures same { self.new ≡ record self.old { joint = self.new.joint } }
+        ensures scans { IfOk result (λ scans. AreScans self.old.query.only candidates.now background scans.items) }
+    {
+        let plans = self.joint.take_plans();
+        scans(self.alloc, &self.query.only, candidates, background, plans)
     }
 
     /// Takes the restriction out of a retrieval that is over, for its memory.
@@ -550,97 +595,37 @@ impl Retrieval {
         )
     }
 
-    /// Takes the planned scans out of a retrieval that is over, for their memory.
-    pub(crate) fn take_plans(&mut self) -> Vec<ScanPlan> {
-        self.joint.take_plans()
-    }
-
-    /// Begins anew in the place of a retrieval that is over, as `make` makes it. On `NoMemory` it is of no more use.
-    fn renew(
+    /// Begins under a strategy, with these background scans and the foreground that stands there, which is used where the
+    /// strategy is sorted or index-only. It has read nothing, and nothing stands in its trace. On `NoMemory` it is of no more
+    /// use.
+    pub(crate) fn renew(
         &mut self,
-        query: Query,
         strategy: Strategy,
         scans: Vec<ScanPlan>,
-        front: Front,
         guaranteed: u64,
         cursor: u64,
         opening: u64,
     ) -> Result<(), NoMemory>
         requires { length scans.items ≤ 8 }
-        ensures { OnOk result (Made query strategy scans.items front guaranteed cursor opening self.new) }
+        ensures { OnOk result (Made self.old.query strategy scans.items self.old.front guaranteed cursor opening self.new) }
     {
         let delivered = match room(self.alloc, strategy) {
             Ok(delivered) => delivered,
             Err(fault) => {
-                drop(query);
                 drop(scans);
-                drop(front);
                 return Err(fault);
             }
         };
         self.control = first_control(strategy, has_scans(scans.as_slice()));
-        let ending = Final::new(self.alloc, query.table, query.snap);
+        self.ending = Final::new(self.alloc, self.query.table, self.query.snap);
         self.joint
-            .renew(query.table, query.snap, scans, cursor, opening);
-        self.ending = ending;
-        self.query = query;
-        self.front = front;
+            .renew(self.query.table, self.query.snap, scans, cursor, opening);
         self.delivered = delivered;
         self.strategy = strategy;
         self.borrowed = 0;
         self.guaranteed = guaranteed;
         renew_trace(&mut self.trace, strategy);
         Ok(())
-    }
-
-    /// As `make`, in the box of a retrieval that is over.
-    fn make_over(
-        over: Box<Retrieval>,
-        query: Query,
-        strategy: Strategy,
-        scans: Vec<ScanPlan>,
-        front: Front,
-        guaranteed: u64,
-        cursor: u64,
-        opening: u64,
-    ) -> Result<Box<Retrieval>, NoMemory>
-        requires { length scans.items ≤ 8 }
-        ensures { IfOk result (λ r. Made query strategy scans.items front guaranteed cursor opening r.value) }
-    {
-        let mut boxed = over;
-        let made = &mut *boxed;
-        match made.renew(query, strategy, scans, front, guaranteed, cursor, opening) {
-            Ok(()) => Ok(boxed),
-            Err(fault) => {
-                drop(boxed);
-                Err(fault)
-            }
-        }
-    }
-
-    /// As `make`, in the box of a retrieval that is over, where there is one.
-    pub(crate) fn make_in(
-        alloc: Global,
-        over: Option<Box<Retrieval>>,
-        query: Query,
-        strategy: Strategy,
-        scans: Vec<ScanPlan>,
-        front: Front,
-        guaranteed: u64,
-        cursor: u64,
-        opening: u64,
-    ) -> Result<Box<Retrieval>, NoMemory>
-        requires { length scans.items ≤ 8 }
-        ensures { IfOk result (λ r. Made query strategy scans.items front guaranteed cursor opening r.value) }
-    {
-        match over {
-            Some(over) => Retrieval::make_over(
-                over, query, strategy, scans, front, guaranteed, cursor, opening,
-            ),
-            None => Retrieval::make(
-                alloc, query, strategy, scans, front, guaranteed, cursor, opening,
-            ),
-        }
     }
 
     /// Writes an event into the trace.

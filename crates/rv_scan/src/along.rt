@@ -70,6 +70,19 @@ impl Walk {
         }
     }
 
+    /// Goes back to before the first leaf of a range. It reads nothing and takes no memory.
+    #[inline(always)]
+    pub fn renew(&mut self, index: u32, snap: u64, range: Range)
+        ensures { self.new ≡ record { index = index; snap = snap; range = range; ahead = First; held = [] } }
+    {
+        self.index = index;
+        self.snap = snap;
+        self.range = range;
+        self.ahead = Ahead::First;
+        self.held.clear();
+        self.at = 0;
+    }
+
     /// The allocator that it keeps.
     pub fn allocator(&self) -> Global {
         self.alloc

@@ -1,16 +1,17 @@
-ghost use Rattle.std.specs.Prelude.{◌≡◌, ◌+◌, ◌≤◌, ℕ, IfOk, OnErr, true};
-ghost use Rattle.rv_scan.specs.Alongs.{Follows, leaf_work, FetchesDue};
+ghost use Rattle.std.specs.Prelude.{◌≡◌, ◌+◌, ◌≤◌, [], ℕ, IfOk, OnErr, true};
+ghost use Rattle.rv_scan.specs.Alongs.{Along, Follows, leaf_work, FetchesDue};
 ghost use Rattle.rv_scan.specs.Due.{IsReady, StepsTo, skipped};
 ghost use Rattle.rv_scan.specs.Fronts.{CanFront, FrontMayRead, FrontReads, SameFront, front_fetches, front_rest, walk_of};
 ghost use Rattle.rv_scan.specs.Reads.{ReadsNone};
 ghost use Rattle.rv_judge.specs.Counting.{reads};
+ghost use Rattle.rv_scan.specs.declared.along.Ahead.TheVariants.{First};
 
 use crate::fscan::Fscan;
 use crate::skip::Skip;
 use rv_judge::Steps;
 use rv_reader::{Reader, Step};
 use rv_restrict::Restriction;
-use rv_value::{Items, NoMemory, Record};
+use rv_value::{Items, NoMemory, Range, Record};
 use std::marker::Model;
 
 /// A foreground's scan of an index: by the index alone where it has every column needed, else with fetches. It has one
@@ -41,6 +42,25 @@ impl Front {
             columns,
             fetching,
         }
+    }
+
+    /// Becomes a foreground before its first step, of a table at a snapshot, along the range of an index. It takes no
+    /// memory.
+    #[inline(always)]
+    pub fn renew(
+        &mut self,
+        alone: bool,
+        columns: Items<u32>,
+        table: u32,
+        index: u32,
+        snap: u64,
+        range: Range,
+    )
+        ensures { let walk : Along = record { index = index; snap = snap; range = range; ahead = First; held = [] } in self.new ≡ record { alone = alone; columns = columns; fetching = record { table = table; walk = walk }; telling = walk } }
+    {
+        self.alone = alone;
+        self.columns = columns;
+        self.fetching.renew(table, index, snap, range);
     }
 
     /// The next row, or a read that brings it nearer.

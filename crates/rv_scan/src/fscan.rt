@@ -188,4 +188,13 @@ impl Fscan {
             Ok(Step::End)
         }
     }
+
+    /// Becomes a scan that has read nothing, as `new` makes it. It takes no memory.
+    #[inline(always)]
+    pub(crate) fn renew(&mut self, table: u32, index: u32, snap: u64, range: Range)
+        ensures { self.new ≡ record { table = table; walk = record { index = index; snap = snap; range = range; ahead = First; held = [] } } }
+    {
+        self.table = table;
+        self.walk.renew(index, snap, range);
+    }
 }

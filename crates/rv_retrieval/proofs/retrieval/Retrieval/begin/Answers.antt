@@ -2,18 +2,17 @@ use Rattle.std.proofs.Common.{◌≡◌, ◌∙◌, ap, subst, sym}
 use Rattle.rv_judge.specs.declared.events.Trace.{Trace}
 use Rattle.rv_judge.specs.Tracing.{NothingCounted, new_trace}
 use Rattle.rv_scan.specs.Places.{work as pages_work}
-use Rattle.rv_final.specs.Rest.{qualifying}
 use Rattle.rv_final.specs.Stage.{Unbegun}
 use Rattle.rv_retrieval.specs.Opened.{start_told}
-use Rattle.rv_retrieval.specs.Shape.{RetrievalFits, Shape, rest}
+use Rattle.rv_retrieval.specs.Shape.{Shape, rest}
 use Rattle.rv_retrieval.proofs.Switching.{trace_keeps}
 use Rattle.rv_retrieval.proofs.retrieval.Retrieval.begin.Goals as goal
 
 pub returns-clause-begun : goal.returns-clause-begun
 returns-clause-begun c =
-    let made : Shape = c.in_ok-retrieval.retrieval.value in
-    let is : c.tell_start.new.self ≡ record made { trace = start_told made } = c.tell_start.ensures ∙ ap (λ (x : Shape). record x { trace = start_told x }) c.deref_mut.ensures.value in
-    let b = c.in_ok-retrieval.ensures.begun in
+    let made : Shape = c.renew.new.self in
+    let is : c.tell_start.new.self ≡ record made { trace = start_told made } = c.tell_start.ensures in
+    let b = c.in_ok-renew.ensures.begun in
     record {
       asked = ap (λ (x : Shape). x.query) is ∙ b.asked;
       chosen = ap (λ (x : Shape). x.strategy) is ∙ b.chosen;
@@ -29,23 +28,18 @@ returns-clause-begun c =
 
 pub returns-clause-told : goal.returns-clause-told
 returns-clause-told c =
-    let made : Shape = c.in_ok-retrieval.retrieval.value in
-    let is : c.tell_start.new.self ≡ record made { trace = start_told made } = c.tell_start.ensures ∙ ap (λ (x : Shape). record x { trace = start_told x }) c.deref_mut.ensures.value in
-    subst (λ (x : Shape). x.trace ≡ start_told (record x { trace = new_trace c.args.strategy })) (sym is) (ap (λ (t : Trace). start_told (record made { trace = t })) c.in_ok-retrieval.ensures.told)
+    let made : Shape = c.renew.new.self in
+    let is : c.tell_start.new.self ≡ record made { trace = start_told made } = c.tell_start.ensures in
+    subst (λ (x : Shape). x.trace ≡ start_told (record x { trace = new_trace c.args.strategy })) (sym is) (ap (λ (t : Trace). start_told (record made { trace = t })) c.in_ok-renew.ensures.told)
 
 pub returns-clause-unborrowed : goal.returns-clause-unborrowed
-returns-clause-unborrowed c = ap (λ (x : Shape). x.borrowed) c.tell_start.ensures ∙ ap (λ (x : Shape). x.borrowed) c.deref_mut.ensures.value ∙ c.in_ok-retrieval.ensures.begun.borrowed
+returns-clause-unborrowed c = ap (λ (x : Shape). x.borrowed) c.tell_start.ensures ∙ c.in_ok-renew.ensures.begun.borrowed
 
 pub returns-clause-last : goal.returns-clause-last
-returns-clause-last c rows pages = ap (λ (x : Shape). pages_work x.last rows pages) c.tell_start.ensures ∙ ap (λ (x : Shape). pages_work x.last rows pages) c.deref_mut.ensures.value ∙ c.in_ok-retrieval.ensures.last rows pages
+returns-clause-last c rows pages = ap (λ (x : Shape). pages_work x.last rows pages) c.tell_start.ensures ∙ c.in_ok-renew.ensures.last rows pages
 
 pub returns-clause-fits : goal.returns-clause-fits
-returns-clause-fits c shown o =
-    let fits = subst (λ (x : Shape). RetrievalFits x shown) (sym c.deref_mut.ensures.value) (c.in_ok-retrieval.ensures.fits shown o) in
-    (trace_keeps c.deref_mut.result.now c.tell_start.new.self _ c.tell_start.ensures).fits shown fits
+returns-clause-fits c shown o = (trace_keeps c.renew.new.self c.tell_start.new.self _ c.tell_start.ensures).fits shown (c.in_ok-renew.ensures.fits shown o)
 
 pub returns-clause-rest : goal.returns-clause-rest
-returns-clause-rest c shown o =
-    let fits = subst (λ (x : Shape). RetrievalFits x shown) (sym c.deref_mut.ensures.value) (c.in_ok-retrieval.ensures.fits shown o) in
-    let due = subst (λ (x : Shape). rest x shown ≡ qualifying c.args.query.only (shown.rows c.args.query.table c.args.query.snap)) (sym c.deref_mut.ensures.value) (c.in_ok-retrieval.ensures.rest shown o) in
-    (trace_keeps c.deref_mut.result.now c.tell_start.new.self _ c.tell_start.ensures).rest shown fits ∙ due
+returns-clause-rest c shown o = (trace_keeps c.renew.new.self c.tell_start.new.self _ c.tell_start.ensures).rest shown (c.in_ok-renew.ensures.fits shown o) ∙ c.in_ok-renew.ensures.rest shown o
