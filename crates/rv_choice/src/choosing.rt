@@ -12,7 +12,6 @@ use rv_reader::{Estimate, Reader};
 use rv_restrict::Restriction;
 use rv_value::{Duplicate, Items, NoMemory, Range};
 use std::alloc::Global;
-use std::mem;
 
 /// An index as a query sees it.
 #[derive(Drop)]
@@ -156,7 +155,7 @@ impl Candidate {
         self.restricted = !range.is_whole();
         self.sufficient = has_all(columns.as_slice(), query.need.get().as_slice());
         self.index = index;
-        drop(mem::replace(&mut self.range, range));
+        self.range = range;
         Ok(())
     }
 }
@@ -168,7 +167,7 @@ fn keep_columns(alloc: Global, columns: &Items<u32>, have: &mut Items<u32>) -> R
     if have.as_slice() == columns.as_slice() {
         return Ok(());
     }
-    drop(mem::replace(have, columns.copy(alloc)?));
+    *have = columns.copy(alloc)?;
     Ok(())
 }
 
@@ -413,8 +412,7 @@ fn renew_plan(
 ) -> Result<(), NoMemory>
     ensures { OnOk result (plan.new ≡ plan_of only.now candidate.now) }
 {
-    let range = candidate.range.copy(alloc)?;
-    drop(mem::replace(&mut plan.range, range));
+    plan.range = candidate.range.copy(alloc)?;
     plan.index = candidate.index;
     plan.estimate = candidate.estimate.value;
     only.renew_part(alloc, candidate.columns.as_slice(), &mut plan.part)
