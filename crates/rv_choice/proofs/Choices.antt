@@ -1,5 +1,5 @@
 -- The choice among the indexes: the least one, what candidates are, and what the background's scans and the foreground are.
-use Rattle.std.proofs.Common.{◌≡◌, ℕ, ◌+◌, ◌<◌, ◌≤◌, ◌⊎◌, List, [], ◌∷◌, ◌++◌, cond, length, Bool, true, false, not, refl, ap, sym, ◌∙◌, arith, subst, Some, None, Option, nat_eq, nat_lt, inl, inr, map, filter, take, drop, get_or, ◌-◌, ◌||◌}
+use Rattle.std.proofs.Common.{◌≡◌, ℕ, zero, suc, ◌+◌, ◌<◌, ◌≤◌, ◌⊎◌, List, [], ◌∷◌, ◌++◌, cond, length, Bool, true, false, not, refl, ap, sym, ◌∙◌, arith, subst, Some, None, Option, nat_eq, nat_lt, inl, inr, map, filter, take, drop, get_or, ◌-◌, ◌||◌}
 use Rattle.std.proofs.lemmas.Bool.{cases_Bool, ltb-true, eqb-true}
 use Rattle.std.proofs.lemmas.Bool.Decides.{nat_tests}
 use Rattle.std.proofs.lemmas.List.{take_rest}
@@ -73,6 +73,22 @@ least_stays role cs k at l more = record {
   before = l.before;
   behind = λ i a b q. either_below i k b (λ less. l.behind i a less q) (λ same. subst (λ (x : ℕ). (candidate_at cs at).estimate.value ≤ (candidate_at cs x).estimate.value) (sym same) more);
 }
+
+-- there always is a least one, or none
+pub least_there : (role : Role) (cs : List Candidate) (k : ℕ) → (best : Option ℕ) × LeastBelow role cs k best
+least_there role cs zero = (None, none_below role cs)
+least_there role cs (suc k) =
+    let next : k + 1 ≡ suc k = omega arith in
+    subst (λ (n : ℕ). (best : Option ℕ) × LeastBelow role cs n best) next (go (least_there role cs k).0 (least_there role cs k).1 (cases_Bool (plays role (candidate_at cs k))))
+  where
+    lesser : (at : ℕ) → FirstLeast role cs k at → plays role (candidate_at cs k) ≡ true → ((nat_lt (candidate_at cs k).estimate.value (candidate_at cs at).estimate.value ≡ true) ⊎ (nat_lt (candidate_at cs k).estimate.value (candidate_at cs at).estimate.value ≡ false)) → (best : Option ℕ) × LeastBelow role cs (k + 1) best
+    lesser at l p (inl less) = (Some k, least_changes role cs k at l p (ltb-true _ _ less))
+    lesser at l p (inr more) = (Some at, least_stays role cs k at l (grind (arith, nat_tests)))
+
+    go : (best : Option ℕ) → LeastBelow role cs k best → ((plays role (candidate_at cs k) ≡ true) ⊎ (plays role (candidate_at cs k) ≡ false)) → (best : Option ℕ) × LeastBelow role cs (k + 1) best
+    go best l (inr p) = (best, least_skips role cs k best l p)
+    go None l (inl p) = (Some k, least_first role cs k l p)
+    go (Some at) l (inl p) = lesser at l p (cases_Bool (nat_lt (candidate_at cs k).estimate.value (candidate_at cs at).estimate.value))
 
 -- What a candidate is.
 pub record IsCandidate (query : Query) (shown : Shown) (c : Candidate) : Type 0 where

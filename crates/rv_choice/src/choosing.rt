@@ -1,4 +1,4 @@
-ghost use Rattle.std.specs.Prelude.{◌≡◌, ◌+◌, ◌<◌, ◌≤◌, ◌++◌, ◌∷◌, [], ℕ, List, length, map, take, Option, IfOk, IfSome, OnOk, true};
+ghost use Rattle.std.specs.Prelude.{◌≡◌, ◌+◌, ◌<◌, ◌≤◌, ◌++◌, ◌∷◌, [], ℕ, List, length, map, take, Option, None, Some, IfOk, IfSome, OnOk, true};
 ghost use Rattle.rv_restrict.specs.Parts.{stands_among};
 ghost use Rattle.rv_reader.specs.Shown.{Shown};
 ghost use Rattle.rv_choice.specs.Asked.{CanAsk, IsIndexOf, with_only};
@@ -348,29 +348,27 @@ fn restricted_choice(goal: Goal2, restricted: Option<usize>) -> Choice
     }
 }
 
-fn free_choice(
-    candidates: &[Candidate],
-    goal: Goal2,
-    short: Option<usize>,
-    sufficient: Option<usize>,
-    restricted: Option<usize>,
-) -> Choice
-    requires short { IfSome short (λ at. at < length candidates.now) }
-    requires sufficient { IfSome sufficient (λ at. at < length candidates.now) }
-    ensures { result ≡ free_choice candidates.now goal short sufficient restricted }
+/// The choice where no order is asked and an index is short.
+fn short_choice(candidates: &[Candidate], short: usize) -> Choice
+    requires { short < length candidates.now }
+    ensures { (goal : Goal2) (sufficient restricted : Option ℕ) → result ≡ free_choice candidates.now goal (Some short) sufficient restricted }
 {
-    match (short, sufficient) {
-        (Some(short), _) => Choice {
-            strategy: Strategy::BackgroundOnly,
-            front: None,
-            background: Background::One(candidates[short].index),
-        },
-        (None, Some(front)) => Choice {
-            strategy: Strategy::IndexOnly,
-            front: Some(front),
-            background: Background::EachBut(candidates[front].index),
-        },
-        (None, None) => restricted_choice(goal, restricted),
+    Choice {
+        strategy: Strategy::BackgroundOnly,
+        front: None,
+        background: Background::One(candidates[short].index),
+    }
+}
+
+/// The choice where no order is asked, no index is short, and one has every column needed.
+fn sufficient_choice(candidates: &[Candidate], front: usize) -> Choice
+    requires { front < length candidates.now }
+    ensures { (goal : Goal2) (restricted : Option ℕ) → result ≡ free_choice candidates.now goal None (Some front) restricted }
+{
+    Choice {
+        strategy: Strategy::IndexOnly,
+        front: Some(front),
+        background: Background::EachBut(candidates[front].index),
     }
 }
 
@@ -379,11 +377,15 @@ pub fn choose(candidates: &[Candidate], order: &[u32], goal: Goal2) -> Choice
     ensures { IsChosen order.now goal candidates.now result }
 {
     let short = least(candidates, Role::Short);
-    let sufficient = least(candidates, Role::Sufficient);
-    let restricted = least(candidates, Role::Restricted);
     match order_index(candidates, order) {
         Some(front) => ordered_choice(candidates, front, short),
-        None => free_choice(candidates, goal, short, sufficient, restricted),
+        None => match short {
+            Some(short) => short_choice(candidates, short),
+            None => match least(candidates, Role::Sufficient) {
+                Some(front) => sufficient_choice(candidates, front),
+                None => restricted_choice(goal, least(candidates, Role::Restricted)),
+            },
+        },
     }
 }
 
