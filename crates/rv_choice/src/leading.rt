@@ -75,7 +75,7 @@ pub fn nowhere(alloc: Global, query: &Query) -> Front
 }
 
 /// Makes a foreground the scan of the candidate in a place, in its memory. Where there is none it is a scan of no index,
-/// which is never stepped.
+/// which is never stepped. Where there is no memory for it the foreground is of no more use.
 pub fn foreground(
     alloc: Global,
     query: &Query,
