@@ -71,17 +71,6 @@ impl Records {
         copy_slice(self.alloc, self.rows(n, snap))
     }
 
-    /// The row of a number at a snapshot; None exactly where there is none.
-    pub fn fetch(&self, row: RowNo, snap: u64) -> Result<Option<Record>, NoMemory>
-        requires { self.now.horizon ≤ snap }
-        ensures { IfOk result (λ found. found ≡ row_at (rows_at self.now snap) row.0) }
-    {
-        match self.row(row, snap) {
-            Some(found) => Ok(Some(found.copy(self.alloc)?)),
-            None => Ok(None),
-        }
-    }
-
     /// How many pages and rows there are at a snapshot. It takes no memory.
     pub fn sizes(&self, snap: u64) -> Sizes
         requires { self.now.horizon ≤ snap }
@@ -110,7 +99,7 @@ impl Records {
         }
     }
 
-    /// The row of a number at a snapshot, as `fetch` gives it, without a copy.
+    /// The row of a number at a snapshot; None exactly where there is none. It takes no memory.
     pub fn row(&self, row: RowNo, snap: u64) -> Option<&Record>
         requires { self.now.horizon ≤ snap }
         ensures row { option_copied result ≡ row_at (rows_at self.now snap) row.0 }

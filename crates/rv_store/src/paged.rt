@@ -15,7 +15,7 @@ use rv_index::split;
 use rv_judge::{Steps, Uncounted};
 use rv_reader::{Change, Chunk, Estimate, Reader, Sizes, Store};
 use rv_records::Records;
-use rv_value::{IndexEntry, NoMemory, Range, Record, RowNo};
+use rv_value::{Duplicate, IndexEntry, NoMemory, Range, Record, RowNo};
 use std::alloc::Global;
 use std::marker::Model;
 
@@ -79,14 +79,17 @@ impl Reader for Paged {
 
     fn fetch(
         &self,
-        _alloc: Global,
+        alloc: Global,
         table: u32,
         snap: u64,
         row: RowNo,
         steps: &mut Steps<Uncounted>,
     ) -> Result<Option<Record>, NoMemory> {
         steps.fetch();
-        self.tables[table as usize].records.fetch(row, snap)
+        match self.tables[table as usize].records.row(row, snap) {
+            Some(found) => Ok(Some(found.copy(alloc)?)),
+            None => Ok(None),
+        }
     }
 
     fn chunk(

@@ -108,12 +108,6 @@ fn tell_records(told: &mut Told, rows: &[Record]) {
     }
 }
 
-fn tell_some(told: &mut Told, found: &Option<Record>) {
-    if let Some(record) = found {
-        tell_record(told, record);
-    }
-}
-
 fn tell_page(records: &Records, told: &mut Told, n: u32, snap: u64) -> Result<(), NoMemory>
     requires { records.now.horizon ≤ snap }
 {
@@ -122,13 +116,12 @@ fn tell_page(records: &Records, told: &mut Told, n: u32, snap: u64) -> Result<()
     Ok(())
 }
 
-fn tell_row(records: &Records, told: &mut Told, row: u64, snap: u64) -> Result<(), NoMemory>
+fn tell_row(records: &Records, told: &mut Told, row: u64, snap: u64)
     requires { records.now.horizon ≤ snap }
 {
-    let found = records.fetch(RowNo(row), snap)?;
-    tell_some(told, &found);
-    drop(found);
-    Ok(())
+    if let Some(record) = records.row(RowNo(row), snap) {
+        tell_record(told, record);
+    }
 }
 
 /// The rows of the pages 0 to 5.
@@ -143,13 +136,12 @@ fn tell_pages(records: &Records, told: &mut Told, snap: u64) -> Result<(), NoMem
 }
 
 /// The rows 0 to 191, fetched.
-fn tell_rows(records: &Records, told: &mut Told, snap: u64) -> Result<(), NoMemory>
+fn tell_rows(records: &Records, told: &mut Told, snap: u64)
     requires { records.now.horizon ≤ snap }
 {
     'rows: for row in 0..192u64 {
-        tell_row(records, told, row, snap)?;
+        tell_row(records, told, row, snap);
     }
-    Ok(())
 }
 
 /// How many pages and rows there are at a snapshot, its rows page by page, and fetched one by one.
@@ -162,14 +154,15 @@ fn show(records: &Records, told: &mut Told, snap: u64) -> Result<(), NoMemory>
     told.word(" rows,");
     tell_pages(records, told, snap)?;
     told.word(" fetched");
-    tell_rows(records, told, snap)
+    tell_rows(records, told, snap);
+    Ok(())
 }
 
-fn fetch(records: &Records, told: &mut Told, row: u64, snap: u64) -> Result<(), NoMemory>
+fn fetch(records: &Records, told: &mut Told, row: u64, snap: u64)
     requires { records.now.horizon ≤ snap }
 {
     told.word("; fetched");
-    tell_row(records, told, row, snap)
+    tell_row(records, told, row, snap);
 }
 
 fn page(records: &Records, told: &mut Told, n: u32, snap: u64) -> Result<(), NoMemory>
@@ -204,7 +197,10 @@ fn tell_at(
     let (row, snap) = place(clock, text)?;
     let done = match word {
         "show" => show(records, told, snap),
-        "fetch" => fetch(records, told, row, snap),
+        "fetch" => {
+            fetch(records, told, row, snap);
+            Ok(())
+        }
         "page" if row < 4294967296 => page(records, told, row as u32, snap),
         _ => return Err(Fault::Form),
     };
