@@ -27,6 +27,7 @@ impl<'a, R: Reader> Reader for Sight<'a, R> {
 
     ghost shown = { λ o. laid_over (alone (R.shown o.at.reader.now) o.at.snap) o.view.now };
 
+    #[inline(always)]
     fn page(
         &self,
         alloc: Global,
@@ -41,6 +42,7 @@ impl<'a, R: Reader> Reader for Sight<'a, R> {
         }
     }
 
+    #[inline(always)]
     fn fetch(
         &self,
         alloc: Global,
@@ -57,6 +59,7 @@ impl<'a, R: Reader> Reader for Sight<'a, R> {
         }
     }
 
+    #[inline(always)]
     fn chunk(
         &self,
         alloc: Global,
@@ -74,6 +77,7 @@ impl<'a, R: Reader> Reader for Sight<'a, R> {
         }
     }
 
+    #[inline(always)]
     fn estimate(&self, index: u32, snap: u64, range: &Range) -> Estimate {
         match self.view {
             None => self.at.reader.estimate(index, snap, range),
@@ -81,6 +85,7 @@ impl<'a, R: Reader> Reader for Sight<'a, R> {
         }
     }
 
+    #[inline(always)]
     fn sizes(&self, table: u32, snap: u64) -> Sizes {
         match self.view {
             None => self.at.reader.sizes(table, snap),

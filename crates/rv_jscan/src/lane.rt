@@ -165,6 +165,7 @@ impl Lane {
         )
     }
 
+    #[inline(always)]
     fn hold(&mut self, held: Chunk)
         requires short { length held.entries ≤ 48 }
         requires apart { Apart held.entries }
@@ -200,6 +201,7 @@ impl Lane {
     }
 
     /// Reads the awaited leaf, where it is not held, and holds it. `NoMemory` leaves all as it was.
+    #[inline(always)]
     pub fn reach<R: Reader>(
         &mut self,
         alloc: Global,
@@ -313,6 +315,7 @@ impl Lane {
     }
 
     /// Goes to the cut that follows; true where none does.
+    #[inline(always)]
     fn go(&mut self, next: Option<IndexEntry>) -> bool
         ensures place { self.new ≡ record self.old { place = next } }
         ensures last { is_some next ≡ not result }
@@ -338,6 +341,7 @@ impl Lane {
 
     /// Takes up the leaf that is held, as `accept` takes up its piece once it is sieved by this part, but without a copy.
     /// `NoMemory` leaves all as it was.
+    #[inline(always)]
     pub fn pass<T: Admits>(&mut self, part: &Part, test: &T) -> Result<bool, NoMemory>
         requires held { IsSome self.old.held }
         requires keys { IfSome self.old.held (λ h. AreKeys (length part.now.columns) h.entries) }

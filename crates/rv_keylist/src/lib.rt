@@ -103,6 +103,7 @@ impl KeyList {
     }
 
     /// Makes places: so many pushes cannot fail. `NoMemory` leaves the list as it was.
+    #[inline(always)]
     pub fn reserve(&mut self, more: u32) -> Result<(), NoMemory>
         requires { self.old.finished ≡ false }
         ensures ok { OnOk result (self.new ≡ record self.old { spare = max self.old.spare more }) }
@@ -126,6 +127,7 @@ impl KeyList {
     }
 
     /// Puts a row behind the others. `NoMemory` leaves the list as it was, and comes only where no place was made.
+    #[inline(always)]
     pub fn push(&mut self, row: RowNo) -> Result<(), NoMemory>
         requires open { self.old.finished ≡ false }
         requires fresh { has_key row.0 self.old.keys ≡ false }

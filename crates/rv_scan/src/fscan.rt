@@ -41,6 +41,7 @@ impl Model for Fscan {
 }
 
 /// What the record that was found for a row comes to: it is given where it qualifies.
+#[inline(always)]
 pub fn look(found: Option<Record>, only: &Restriction) -> Step<Record>
     requires { IfSome found (λ r. names_only (row_has r.values) only.now ≡ true) }
     ensures { result ≡ looked only.now found }
