@@ -76,7 +76,7 @@ append_both [] b c e = refl
 append_both (x ∷ a) b c e = ap (λ ys. x ∷ ys) (append_both a b c e)
 
 -- an entry fetched
-pub fetched_step : (only : List (List Atom)) (skip : Skipped) (walk : Along) (passed : ℕ) (row : RowNo) (d : IndexEntry) (entries cuts : List IndexEntry) (rows : List Record) → FindsEntry skip walk.held (Some (passed, row))
+fetched_step : (only : List (List Atom)) (skip : Skipped) (walk : Along) (passed : ℕ) (row : RowNo) (d : IndexEntry) (entries cuts : List IndexEntry) (rows : List Record) → FindsEntry skip walk.held (Some (passed, row))
     → StepsTo (looked only (row_at rows row.0)) (fetch_rest walk entries rows only skip) (leaf_work walk entries cuts) (fetch_rest (record walk { held = drop (passed + 1) walk.held }) entries rows only skip) (leaf_work (record walk { held = drop (passed + 1) walk.held }) entries cuts)
 fetched_step only skip walk passed row d entries cuts rows found =
     let coming = to_come walk.ahead entries walk.range in
@@ -130,26 +130,19 @@ pub follows_turned : {E : Type 0} (r : Result (Step Record) E) (old new : Fetchi
 follows_turned (Ok scanned) old new entries cuts turned err fits = turned_follows scanned old new entries cuts fits turned
 follows_turned (Err e) old new entries cuts turned err fits = rw err fits
 
-pub step_fetched : {E : Type 0} (r : Result (Step Record) E) (only : List (List Atom)) (skip : Skipped) (old new : Fetching) (passed : ℕ) (row : RowNo) (d : IndexEntry) (entries cuts : List IndexEntry) (rows : List Record) → FindsEntry skip old.walk.held (Some (passed, row))
-    → IfOk r (λ scanned. scanned ≡ looked only (row_at rows row.0)) → OnOk r (new ≡ record old { walk = record old.walk { held = drop (passed + 1) old.walk.held } })
-    → IfOk r (λ scanned. StepsTo scanned (fetch_rest old.walk entries rows only skip) (leaf_work old.walk entries cuts) (fetch_rest new.walk entries rows only skip) (leaf_work new.walk entries cuts))
-step_fetched (Ok scanned) only skip old new passed row d entries cuts rows found is after = rw (is, after) (fetched_step only skip old.walk passed row d entries cuts rows found)
-step_fetched (Err e) only skip old new passed row d entries cuts rows found is after = tt
-
-pub follows_fetched : {E : Type 0} (r : Result (Step Record) E) (old new : Fetching) (passed : ℕ) (entries : List IndexEntry) → passed < length old.walk.held → OnOk r (new ≡ record old { walk = record old.walk { held = drop (passed + 1) old.walk.held } }) → OnErr r (new ≡ old) → Follows old.walk entries → Follows new.walk entries
-follows_fetched (Ok scanned) old new passed entries h after err fits = rw after (fetched_follows old.walk passed entries h fits)
-follows_fetched (Err e) old new passed entries h after err fits = rw err fits
+pub step_fetched : (scanned : Step Record) (only : List (List Atom)) (skip : Skipped) (walk new : Along) (passed : ℕ) (row : RowNo) (d : IndexEntry) (entries cuts : List IndexEntry) (rows : List Record) → FindsEntry skip walk.held (Some (passed, row)) → scanned ≡ looked only (row_at rows row.0) → new ≡ record walk { held = drop (passed + 1) walk.held }
+    → StepsTo scanned (fetch_rest walk entries rows only skip) (leaf_work walk entries cuts) (fetch_rest new entries rows only skip) (leaf_work new entries cuts)
+step_fetched scanned only skip walk new passed row d entries cuts rows found is after = rw (is, after) (fetched_step only skip walk passed row d entries cuts rows found)
 
 -- Which record a step reads.
 
-pub fetches_row : {E : Type 0} (r : Result (Step Record) E) (skip : Skipped) (only : List (List Atom)) (rows : List Record) (held : List IndexEntry) (passed : ℕ) (row : RowNo) (d : IndexEntry) (old new : Counts) → FindsEntry skip held (Some (passed, row)) → new ≡ record_read old → IfOk r (λ scanned. scanned ≡ looked only (row_at rows row.0)) → IfOk r (λ scanned. FetchesDue skip only rows scanned old new)
-fetches_row (Ok scanned) skip only rows held passed row d old new found read looks = inl (record {
+pub fetches_row : (scanned : Step Record) (skip : Skipped) (only : List (List Atom)) (rows : List Record) (held : List IndexEntry) (passed : ℕ) (row : RowNo) (d : IndexEntry) (old new : Counts) → FindsEntry skip held (Some (passed, row)) → new ≡ record_read old → scanned ≡ looked only (row_at rows row.0) → FetchesDue skip only rows scanned old new
+fetches_row scanned skip only rows held passed row d old new found read looks = inl (record {
   row = row.0;
   unskipped = let at = found.1 d in not-true (skips skip row.0) (ap (λ (n : RowNo). not (skips skip n.0)) at.1 ∙ at.0);
   read = read;
   looks = looks;
 })
-fetches_row (Err e) skip only rows held passed row d old new found read looks = tt
 
 pub fetches_none : {E : Type 0} (r : Result (Step Record) E) (skip : Skipped) (only : List (List Atom)) (rows : List Record) (old new : Counts) → OnOk r (new.records ≡ old.records) → IfOk r (λ scanned. FetchesDue skip only rows scanned old new)
 fetches_none (Ok scanned) skip only rows old new same = inr same

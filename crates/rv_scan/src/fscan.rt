@@ -72,35 +72,6 @@ impl Fscan {
         }
     }
 
-    /// Fetches the record of an entry behind so many others, and passes over it.
-    fn fetch<R: Reader>(
-        &mut self,
-        reader: &R,
-        passed: usize,
-        row: RowNo,
-        only: &Restriction,
-        steps: &mut Steps<R::Ledger>,
-    ) -> Result<Step<Record>, NoMemory>
-        requires can { CanRead (R.shown reader.now) self.old.table self.old.walk.snap }
-        requires columns { HaveColumns only.now ((R.shown reader.now).rows self.old.table self.old.walk.snap) }
-        requires within { passed < length self.old.walk.held }
-        ensures looked { IfOk result (λ scanned. scanned ≡ looked only.now (row_at ((R.shown reader.now).rows self.old.table self.old.walk.snap) row.0)) }
-        ensures after { OnOk result (self.new ≡ record self.old { walk = record self.old.walk { held = drop (passed + 1) self.old.walk.held } }) }
-        ensures reads { steps.new ≡ record_read steps.old }
-        ensures err { OnErr result (self.new ≡ self.old) }
-    {
-        let found = reader.fetch(
-            self.walk.allocator(),
-            self.table,
-            self.walk.snap(),
-            row,
-            steps,
-        )?;
-        let scanned = look(found, only);
-        self.walk.pass(passed);
-        Ok(scanned)
-    }
-
     /// The number of the row of the next entry that is not skipped, and how many stand before it.
     fn next(&self, skip: &Skip<'_>) -> Option<(usize, RowNo)>
         requires { IsReady (skipped skip.now) }
@@ -137,8 +108,19 @@ impl Fscan {
         ensures pages { steps.new.pages ≡ steps.old.pages }
     {
         match self.next(skip) {
-            Some((passed, row)) => self.fetch(reader, passed, row, only, steps),
             None => self.turn(reader, steps),
+            Some((passed, row)) => {
+                let found = reader.fetch(
+                    self.walk.allocator(),
+                    self.table,
+                    self.walk.snap(),
+                    row,
+                    steps,
+                )?;
+                let scanned = look(found, only);
+                self.walk.pass(passed);
+                Ok(scanned)
+            }
         }
     }
 
