@@ -34,7 +34,8 @@ use Rattle.rv_final.specs.Rest.{Steps}
 use Rattle.rv_retrieval.specs.Runs.{indexes_asked}
 use Rattle.rv_race.specs.Given.{Awaits, awaited, next_id, piece_read, turn_lane, turn_scan}
 use Rattle.rv_race.specs.Opened.{DoesAs, DoesStep, EndsIn, OnlyTakes, StepsAs as RaceSteps, ended_by}
-use Rattle.rv_race.specs.Raced.{RaceFits, Raced, SameRace, racing, rest}
+use Rattle.rv_race.specs.Raced.{RaceFits, Raced, SameRace, rest}
+use Rattle.rv_final.specs.Shell.{scanning}
 use Rattle.rv_race.specs.Rulings.{GivesOn, HasNextTurn, Obeys, accepted, ended, index_at, listed, more, over, ruled, told_over}
 use Rattle.rv_jscan.specs.Planned.{indexes_of}
 use Rattle.rv_race.specs.Runs.{Tells}
@@ -217,11 +218,11 @@ pub piece_awaited : (r : Raced) (piece : Pieced) → Awaits r piece → awaited 
 piece_awaited r piece awaits = rw awaits.under_way (ap (λ (id : PieceId). Some id) (sym awaits.own.named))
 
 -- nothing is awaited where no scan is under way
-pub none_awaited : (r : Raced) → racing r.control ≡ false → awaited r ≡ None
+pub none_awaited : (r : Raced) → scanning r.control ≡ false → awaited r ≡ None
 none_awaited r e = rw e refl
 
 pub none_read : (r : Raced) (c : Counts) → awaited r ≡ None → c ≡ piece_read r c
-none_read r c none = unawaited_read (racing r.control) (next_id r) (turn_lane r).held c none
+none_read r c none = unawaited_read (scanning r.control) (next_id r) (turn_lane r).held c none
 
 -- a give, whatever it answers
 pub gives_as_raced : {E : Type 0} (r : Result Given E) (would : ℕ → Facts → Ruling) (state after : ℕ) (piece : Pieced) (old : RacedQuery) (new : Raced) → IfOk r (λ g. GivesOn would state after piece g old.race new) → IfOk r (λ g. HasNextTurn g old.race new) → IfOk r (λ g. RacedGives would state after piece g old (record old { race = new }))

@@ -33,7 +33,9 @@ use Rattle.rv_race.specs.declared.running.Running.{Running}
 use Rattle.rv_race.specs.Effort.{keys_work}
 use Rattle.rv_race.specs.Given.{Answers, one_leaf, piece_read, reads_leaf, turn_lane, turn_plan, turn_scan}
 use Rattle.rv_race.specs.Opened.{DoesAs, MayRead, ended_by}
-use Rattle.rv_race.specs.Raced.{RaceFits, Raced, racing, rows_of}
+use Rattle.rv_race.specs.Raced.{RaceFits, Raced, rows_of}
+use Rattle.rv_final.specs.Shell.{scanning}
+use Rattle.rv_final.proofs.Shells.{only_scanning}
 use Rattle.rv_race.specs.Rulings.{GivesOn, Obeys, accepted, account_of, dropped, ended, facts_of, going_on, gone, index_at, least_with, listed, more, over, passed_on, ruled, scan_of, stopped, told_over}
 use Rattle.skew_judges.specs.Guard.{IsBounded, Keeps, goes_on}
 use Rattle.rv_bounded.specs.Calls.{Call, lost_by, lost_of}
@@ -41,7 +43,7 @@ use Rattle.rv_bounded.specs.Calls.Call.{Step, StepLost, Take, TakeLost, Give}
 use Rattle.rv_bounded.specs.RaceReads.{RaceAllOver, RaceOver, RacesAreBounded}
 use Rattle.rv_bounded.specs.Races.{RaceDoesAll, RaceDoesCall, RaceGives, RaceSteps, RaceStepsLost, RaceTakes}
 use Rattle.rv_bounded.proofs.Ahead.{greatest}
-use Rattle.rv_bounded.proofs.RaceLaws.{Leafs, Placed, RaceSpends, accepted_room, all_dropped, below_room, give_spends, idle_spends, leafs_placed, least_less, not_racing, only_leafs, only_racing, opened_most, opened_placed, other_below, race_ahead, scan_dropped, scans_over, step_lost, step_spends, take_lost, take_spends, takes_leafs}
+use Rattle.rv_bounded.proofs.RaceLaws.{Leafs, Placed, RaceSpends, accepted_room, all_dropped, below_room, give_spends, idle_spends, leafs_placed, least_less, not_racing, only_leafs, opened_most, opened_placed, other_below, race_ahead, scan_dropped, scans_over, step_lost, step_spends, take_lost, take_spends, takes_leafs}
 use Rattle.rv_bounded.proofs.RaceSound.{RestSound, RunsSound, accepted_rest_sound, advanced_sound, first_sound, goes_sound, held_by, held_sound, kept_at, leaf_sound, list_sound, narrowed_sound, turned_sound, turn_capped, turn_scanned}
 use Rattle.rv_bounded.proofs.Sound.{IsShort, held_short, keeps_fewer, short_held}
 use Rattle.rv_bounded.proofs.Stages.{behind, drawn_short, list_fewer, others_of, others_same, page_rise, record_rise, same_others, stage_by, stage_less, stage_most, sum_to, table_fewer}
@@ -55,7 +57,7 @@ abbrev IsFew : ℕ → List ℕ → Type 0
 IsFew most keys = length keys ≤ most
 
 pub record RaceSound (p : ℕ) (r : Raced) : Type 0 where
-  pub runs : racing r.control ≡ true → RunsSound p r.counts r.running
+  pub runs : scanning r.control ≡ true → RunsSound p r.counts r.running
   pub list : IfSome r.list (IsFew (p + 48))
 
 -- WHAT HOLDS FROM OPENING ON
@@ -96,13 +98,13 @@ stage_at p r c e = ap (λ (k : Control). stage_by k (p + 48) p (keys_work r) r.l
 
 -- A PIECE IS GIVEN.
 
-gone_sound : (p : ℕ) (h : Happening) (r : Raced) → IfSome r.list (IsFew (p + 48)) → racing (next_control BackgroundOnly r.control h) ≡ false → RaceSound p (gone h r)
-gone_sound p h r list off = record { runs = λ on. not_racing (racing (next_control BackgroundOnly r.control h)) on off; list = list }
+gone_sound : (p : ℕ) (h : Happening) (r : Raced) → IfSome r.list (IsFew (p + 48)) → scanning (next_control BackgroundOnly r.control h) ≡ false → RaceSound p (gone h r)
+gone_sound p h r list off = record { runs = λ on. not_racing (scanning (next_control BackgroundOnly r.control h)) on off; list = list }
 
 going_sound : (p : ℕ) (r : Raced) → RestSound p r.counts r.running → IfSome r.list (IsFew (p + 48)) → RaceSound p (going_on r)
 going_sound p r rest list = record { runs = λ on. advanced_sound p (length r.plans) r.counts (is_some r.list) r.running rest; list = list }
 
-dropped_sound : (p : ℕ) (r : Raced) → racing r.control ≡ true → RestSound p r.counts r.running → IfSome r.list (IsFew (p + 48)) → RaceSound p (dropped r)
+dropped_sound : (p : ℕ) (r : Raced) → scanning r.control ≡ true → RestSound p r.counts r.running → IfSome r.list (IsFew (p + 48)) → RaceSound p (dropped r)
 dropped_sound p r on rest list = by (more r)
   where
     t : Raced
@@ -110,34 +112,34 @@ dropped_sound p r on rest list = by (more r)
 
     by : (b : Bool) → RaceSound p (over b (Ruled AbandonScan b (is_some r.list)) t)
     by true = going_sound p t rest list
-    by false = gone_sound p (Ruled AbandonScan false (is_some r.list)) t list (ap (λ (c : Control). racing (next_control BackgroundOnly c (Ruled AbandonScan false (is_some r.list)))) (only_racing r.control on) ∙ scan_dropped (is_some r.list))
+    by false = gone_sound p (Ruled AbandonScan false (is_some r.list)) t list (ap (λ (c : Control). scanning (next_control BackgroundOnly c (Ruled AbandonScan false (is_some r.list)))) (only_scanning r.control on) ∙ scan_dropped (is_some r.list))
 
-stopped_sound : (p : ℕ) (r : Raced) → racing r.control ≡ true → IfSome r.list (IsFew (p + 48)) → RaceSound p (stopped r)
+stopped_sound : (p : ℕ) (r : Raced) → scanning r.control ≡ true → IfSome r.list (IsFew (p + 48)) → RaceSound p (stopped r)
 stopped_sound p r on list =
-    let off : racing (next_control BackgroundOnly r.control (Ruled AbandonBackground (more r) (is_some r.list))) ≡ false = ap (λ (c : Control). racing (next_control BackgroundOnly c (Ruled AbandonBackground (more r) (is_some r.list)))) (only_racing r.control on) ∙ all_dropped (more r) (is_some r.list) in
-    record { runs = λ h. not_racing (racing (next_control BackgroundOnly r.control (Ruled AbandonBackground (more r) (is_some r.list)))) h off; list = list }
+    let off : scanning (next_control BackgroundOnly r.control (Ruled AbandonBackground (more r) (is_some r.list))) ≡ false = ap (λ (c : Control). scanning (next_control BackgroundOnly c (Ruled AbandonBackground (more r) (is_some r.list)))) (only_scanning r.control on) ∙ all_dropped (more r) (is_some r.list) in
+    record { runs = λ h. not_racing (scanning (next_control BackgroundOnly r.control (Ruled AbandonBackground (more r) (is_some r.list)))) h off; list = list }
 
 passed_sound : (p : ℕ) (r : Raced) → RunsSound p r.counts r.running → IfSome r.list (IsFew (p + 48)) → RaceSound p (passed_on r)
 passed_sound p r runs list = record { runs = λ on. turned_sound p r.counts r.running runs; list = list }
 
-ruled_sound : (p : ℕ) (verdict : Verdict) (r : Raced) → racing r.control ≡ true → (goes_on verdict ≡ true → RunsSound p r.counts r.running) → RestSound p r.counts r.running → IfSome r.list (IsFew (p + 48)) → RaceSound p (ruled verdict r)
+ruled_sound : (p : ℕ) (verdict : Verdict) (r : Raced) → scanning r.control ≡ true → (goes_on verdict ≡ true → RunsSound p r.counts r.running) → RestSound p r.counts r.running → IfSome r.list (IsFew (p + 48)) → RaceSound p (ruled verdict r)
 ruled_sound p Continue r on goes rest list = passed_sound p r (goes refl) list
 ruled_sound p AbandonScan r on goes rest list = dropped_sound p r on rest list
 ruled_sound p AbandonForeground r on goes rest list = passed_sound p r (goes refl) list
 ruled_sound p AbandonBackground r on goes rest list = stopped_sound p r on list
 
-ended_sound : (p : ℕ) (r : Raced) → racing r.control ≡ true → RestSound p r.counts r.running → IfSome r.list (IsFew (p + 48)) → RaceSound p (ended r)
+ended_sound : (p : ℕ) (r : Raced) → scanning r.control ≡ true → RestSound p r.counts r.running → IfSome r.list (IsFew (p + 48)) → RaceSound p (ended r)
 ended_sound p r on rest list = by (more r)
   where
     by : (b : Bool) → RaceSound p (over b (ScanEnded b true) r)
     by true = going_sound p r rest list
-    by false = gone_sound p (ScanEnded false true) r list (ap (λ (c : Control). racing (next_control BackgroundOnly c (ScanEnded false true))) (only_racing r.control on) ∙ scans_over true)
+    by false = gone_sound p (ScanEnded false true) r list (ap (λ (c : Control). scanning (next_control BackgroundOnly c (ScanEnded false true))) (only_scanning r.control on) ∙ scans_over true)
 
-turn_lt : (p planned : ℕ) (r : Raced) → Placed p planned r → racing r.control ≡ true → turn_scan r < length r.counts
+turn_lt : (p planned : ℕ) (r : Raced) → Placed p planned r → scanning r.control ≡ true → turn_scan r < length r.counts
 turn_lt p planned r w on = below_room (turn_scan r) r.running.next planned (length r.counts) (w.runs on).turn (w.runs on).next w.room
 
 -- where the judge lets a scan go on it has kept fewer keys than the table has pages
-judged_sound : (p planned : ℕ) (would : ℕ → Facts → Ruling) (state : ℕ) (piece : Pieced) (old : Raced) → IsBounded would → Placed p planned old → p ≤ greatest → RaceSound p old → racing old.control ≡ true → goes_on (would state (facts_of (accepted piece false old))).verdict ≡ true → RunsSound p (accepted piece false old).counts (accepted piece false old).running
+judged_sound : (p planned : ℕ) (would : ℕ → Facts → Ruling) (state : ℕ) (piece : Pieced) (old : Raced) → IsBounded would → Placed p planned old → p ≤ greatest → RaceSound p old → scanning old.control ≡ true → goes_on (would state (facts_of (accepted piece false old))).verdict ≡ true → RunsSound p (accepted piece false old).counts (accepted piece false old).running
 judged_sound p planned would state piece old rule w small s on goes =
     let v = accepted piece false old in
     let keeps : Keeps (facts_of v) = (rule state (facts_of v)).0 goes in
@@ -147,7 +149,7 @@ judged_sound p planned would state piece old rule w small s on goes =
     let fewer = keeps_fewer v.control (account_of v (turn_scan v)) (turn_scan v) least 0 keeps (turn_scanned p piece old lt runs.turn) (turn_capped piece old lt) in
     goes_sound p planned piece old (w.runs on) lt small (below_room (kept_at v.counts (turn_scan old)) least old.guaranteed p fewer (least_less v (scan_of v.running.other)) w.less) runs
 
-completed_sound : (p planned : ℕ) (piece : Pieced) (old : Raced) (keys : List ℕ) → Placed p planned old → RaceSound p old → racing old.control ≡ true → length piece.entries ≤ 48 → IsPermutation (turn_lane (accepted piece true old)).building keys → RaceSound p (ended (listed keys (accepted piece true old)))
+completed_sound : (p planned : ℕ) (piece : Pieced) (old : Raced) (keys : List ℕ) → Placed p planned old → RaceSound p old → scanning old.control ≡ true → length piece.entries ≤ 48 → IsPermutation (turn_lane (accepted piece true old)).building keys → RaceSound p (ended (listed keys (accepted piece true old)))
 completed_sound p planned piece old keys w s on short perm =
     let v = accepted piece true old in
     let r = listed keys v in
@@ -157,7 +159,7 @@ completed_sound p planned piece old keys w s on short perm =
     let rest = narrowed_sound p keys v.counts v.running r.running refl refl places.other below (accepted_rest_sound p planned piece true old places runs.rest) in
     ended_sound p r on rest (list_sound p piece old keys short perm runs.turn.few)
 
-given_sound : (p planned : ℕ) (would : ℕ → Facts → Ruling) (state after : ℕ) (piece : Pieced) (old new : Raced) → IsBounded would → Placed p planned old → p ≤ greatest → RaceSound p old → racing old.control ≡ true → length piece.entries ≤ 48 → Obeys would state after piece (held_next (turn_lane old).held) old new → RaceSound p new
+given_sound : (p planned : ℕ) (would : ℕ → Facts → Ruling) (state after : ℕ) (piece : Pieced) (old new : Raced) → IsBounded would → Placed p planned old → p ≤ greatest → RaceSound p old → scanning old.control ≡ true → length piece.entries ≤ 48 → Obeys would state after piece (held_next (turn_lane old).held) old new → RaceSound p new
 given_sound p planned would state after piece old new rule w small s on short obeys = by (held_next (turn_lane old).held) obeys
   where
     verdict : Verdict
@@ -185,7 +187,7 @@ give_costs p planned would old new small rule w gives = by gives.given gives.ans
           other = 0;
           both = refl;
           spends = spends;
-          fewer = back_sum (others_of new.trace) (stage_of p new) (others_of old.trace) (stage_of p old) (p + 48) (same_others old.trace new.trace gives.counts) (stage_few p new sound) (stage_at p old BackgroundAlone (only_racing old.control on));
+          fewer = back_sum (others_of new.trace) (stage_of p new) (others_of old.trace) (stage_of p old) (p + 48) (same_others old.trace new.trace gives.counts) (stage_few p new sound) (stage_at p old BackgroundAlone (only_scanning old.control on));
           sound = sound;
         }
     by (Stale asked now) answers obeys = record {
@@ -204,11 +206,11 @@ fits_short r shown f = drawn_short (turn_plan r) shown r.snap (turn_lane r).plac
 
 taken_sound : (p planned : ℕ) (old new : Raced) → Placed p planned old → Leafs old new → new.list ≡ old.list → IfSome (turn_lane new).held IsShort → RaceSound p old → RaceSound p new
 taken_sound p planned old new w t list short s = record {
-  runs = λ on. subst (λ (x : Running). RunsSound p new.counts x) (sym t.running) (subst (λ (cs : List ScanCounts). RunsSound p cs (record old.running { turn = held_by (turn_lane new).held old.running.turn })) (sym t.counts) (by (sym (ap racing t.control) ∙ on) (reads_leaf old)));
+  runs = λ on. subst (λ (x : Running). RunsSound p new.counts x) (sym t.running) (subst (λ (cs : List ScanCounts). RunsSound p cs (record old.running { turn = held_by (turn_lane new).held old.running.turn })) (sym t.counts) (by (sym (ap scanning t.control) ∙ on) (reads_leaf old)));
   list = subst (λ (l : Option (List ℕ)). IfSome l (IsFew (p + 48))) (sym list) s.list;
 }
   where
-    by : racing old.control ≡ true → (b : Bool) → RunsSound p (if b then one_leaf old else old.counts) (record old.running { turn = held_by (turn_lane new).held old.running.turn })
+    by : scanning old.control ≡ true → (b : Bool) → RunsSound p (if b then one_leaf old else old.counts) (record old.running { turn = held_by (turn_lane new).held old.running.turn })
     by on true = leaf_sound p planned old.counts old.running (turn_lane new).held (w.runs on) (turn_lt p planned old w on) short (s.runs on)
     by on false = held_sound p old.counts old.running (turn_lane new).held short (s.runs on)
 
@@ -265,7 +267,7 @@ lost_costs p planned shown old new small w lost fits = by old.control refl lost.
     leaf_lost none = costs 1 0 refl (step_lost p planned old new small w.placed lost) (sum_none (others_of new.trace) (others_of old.trace) (stage_of p new) (stage_of p old) none stage)
 
     -- a record or a page at most
-    other_lost : racing old.control ≡ false → lost.behind.leaves ≡ lost.before.leaves → others_of new.trace ≤ others_of old.trace + 1 → RaceCosts p planned 1 old new
+    other_lost : scanning old.control ≡ false → lost.behind.leaves ≡ lost.before.leaves → others_of new.trace ≤ others_of old.trace + 1 → RaceCosts p planned 1 old new
     other_lost off none one = costs 0 1 refl (idle_spends p planned old new lost.before lost.behind w.placed leafs off lost.counts none) (sum_lost (others_of new.trace) (others_of old.trace) (stage_of p new) (stage_of p old) one stage)
 
     unread : lost.behind ≡ lost.before → RaceCosts p planned 1 old new
@@ -275,8 +277,8 @@ lost_costs p planned shown old new small w lost fits = by old.control refl lost.
     by Building e reads = unread reads
     by ForegroundAlone e reads = unread reads
     by BackgroundAlone e reads = leaf_lost (piece_others old old.trace new.trace lost.before lost.behind lost.counts reads)
-    by FinalList e reads = other_lost (ap racing e) (one_record lost.before lost.behind reads) (record_rise old.trace new.trace lost.before lost.behind lost.counts reads)
-    by FinalTable e reads = other_lost (ap racing e) (one_page lost.before lost.behind reads) (page_rise old.trace new.trace lost.before lost.behind lost.counts reads)
+    by FinalList e reads = other_lost (ap scanning e) (one_record lost.before lost.behind reads) (record_rise old.trace new.trace lost.before lost.behind lost.counts reads)
+    by FinalTable e reads = other_lost (ap scanning e) (one_page lost.before lost.behind reads) (page_rise old.trace new.trace lost.before lost.behind lost.counts reads)
     by Done e reads = unread reads
 
 -- A STEP
@@ -299,19 +301,19 @@ ended_list (Row x) r = refl
 ended_list Working r = refl
 ended_list End r = refl
 
-behind_idle : (s : Stepped Record) (c : Control) → racing c ≡ false → racing (behind s c) ≡ false
+behind_idle : (s : Stepped Record) (c : Control) → scanning c ≡ false → scanning (behind s c) ≡ false
 behind_idle (Row x) c off = off
 behind_idle Working c off = off
 behind_idle End c off = refl
 
 -- of the final stage
-stage_others : (p : ℕ) (s : Stepped Record) (at : Control) (old v stepped new : Raced) (c d : Counts) (had : ℕ) → racing at ≡ false → next_control BackgroundOnly at FinalEnded ≡ Done → v.control ≡ at → v.list ≡ old.list → stepped ≡ ended_by s v → new ≡ record stepped { trace = counted stepped.trace c d } → RaceSound p old → stage_of p old ≡ had → (stepped.control ≡ behind s at → others_of new.trace + stage_of p stepped ≤ others_of old.trace + had + 0) → Others p old new
+stage_others : (p : ℕ) (s : Stepped Record) (at : Control) (old v stepped new : Raced) (c d : Counts) (had : ℕ) → scanning at ≡ false → next_control BackgroundOnly at FinalEnded ≡ Done → v.control ≡ at → v.list ≡ old.list → stepped ≡ ended_by s v → new ≡ record stepped { trace = counted stepped.trace c d } → RaceSound p old → stage_of p old ≡ had → (stepped.control ≡ behind s at → others_of new.trace + stage_of p stepped ≤ others_of old.trace + had + 0) → Others p old new
 stage_others p s at old v stepped new c d had off over is list does e sound was less =
     let control : stepped.control ≡ behind s at = ap (λ (x : Raced). x.control) does ∙ ended_control s v at is over in
-    let idle : racing stepped.control ≡ false = ap racing control ∙ behind_idle s at off in
+    let idle : scanning stepped.control ≡ false = ap scanning control ∙ behind_idle s at off in
     let lists : stepped.list ≡ old.list = ap (λ (x : Raced). x.list) does ∙ ended_list s v ∙ list in
     let still : RaceSound p stepped = record {
-      runs = λ on. not_racing (racing stepped.control) on idle;
+      runs = λ on. not_racing (scanning stepped.control) on idle;
       list = subst (λ (l : Option (List ℕ)). IfSome l (IsFew (p + 48))) (sym lists) sound.list;
     } in
     record {

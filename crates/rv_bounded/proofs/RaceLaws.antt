@@ -2,7 +2,6 @@
 use Rattle.std.proofs.Common.{◌≡◌, ℕ, ◌+◌, ◌-◌, ◌*◌, ◌<◌, ◌≤◌, List, [], ◌∷◌, length, length-set, min, Bool, true, false, not, Option, Some, None, IfSome, is_some, nat_lt, refl, ap, sym, ◌∙◌, subst, arith, if◌then◌else◌}
 use Rattle.std.specs.Cmp.{first_so}
 use Rattle.std.proofs.lemmas.Bool.{ltb-true, ltb-false}
-use Rattle.rv_value.proofs.Tests.{no_other}
 use Rattle.rv_value.specs.declared.record.IndexEntry.{IndexEntry}
 use Rattle.rv_judge.specs.declared.counting.Counts.{Counts}
 use Rattle.rv_judge.specs.declared.events.Control.{Control}
@@ -39,7 +38,9 @@ use Rattle.rv_race.specs.declared.running.Runner.{Runner}
 use Rattle.rv_race.specs.declared.running.Running.{Running}
 use Rattle.rv_race.specs.Given.{Answers, TakesLeaf, TakesPiece, counts_read, one_leaf, piece_read, reads_leaf, turn_lane, turn_scan}
 use Rattle.rv_race.specs.Opened.{DoesAs, MayRead, OnePiece, OnlyTakes, Opened, ended_by}
-use Rattle.rv_race.specs.Raced.{Raced, racing, rows_of}
+use Rattle.rv_race.specs.Raced.{Raced, rows_of}
+use Rattle.rv_final.specs.Shell.{scanning}
+use Rattle.rv_final.proofs.Shells.{only_scanning}
 use Rattle.rv_race.specs.Rulings.{GivesOn, Obeys, accepted, dropped, ended, facts_of, going_on, gone, index_at, kept_of, least_with, listed, more, narrowed_by, over, passed_on, recounted_by, ruled, scan_of, stopped, told_over}
 use Rattle.rv_race.specs.Ways.{advanced, first_two, has_next, turned}
 use Rattle.skew_judges.specs.Guard.{IsBounded, Keeps, goes_on, share}
@@ -57,30 +58,22 @@ pub record Placed (p planned : ℕ) (r : Raced) : Type 0 where
   pub plans : length r.plans ≡ planned
   pub room : planned ≤ length r.counts
   pub less : r.guaranteed ≤ p
-  pub runs : racing r.control ≡ true → Runs planned r.running
+  pub runs : scanning r.control ≡ true → Runs planned r.running
 
 -- THE LEAVES AHEAD while scans are under way
 abbrev pub race_ahead : ℕ → ℕ → Raced → ℕ
-race_ahead p planned r = if racing r.control then race_sum p planned r.counts r.running else 0
+race_ahead p planned r = if scanning r.control then race_sum p planned r.counts r.running else 0
 
 -- what a call costs
 pub record RaceSpends (p planned lost : ℕ) (old new : Raced) : Type 0 where
   pub placed : Placed p planned new
   pub fewer : new.trace.leaves + race_ahead p planned new ≤ old.trace.leaves + race_ahead p planned old + lost
 
-racing_left : (p planned : ℕ) (r : Raced) → racing r.control ≡ true → race_ahead p planned r ≡ race_sum p planned r.counts r.running
+racing_left : (p planned : ℕ) (r : Raced) → scanning r.control ≡ true → race_ahead p planned r ≡ race_sum p planned r.counts r.running
 racing_left p planned r on = ap (λ (b : Bool). if b then race_sum p planned r.counts r.running else 0) on
 
-idle_left : (p planned : ℕ) (r : Raced) → racing r.control ≡ false → race_ahead p planned r ≡ 0
+idle_left : (p planned : ℕ) (r : Raced) → scanning r.control ≡ false → race_ahead p planned r ≡ 0
 idle_left p planned r off = ap (λ (b : Bool). if b then race_sum p planned r.counts r.running else 0) off
-
-pub only_racing : (c : Control) → racing c ≡ true → c ≡ BackgroundAlone
-only_racing Building b = no_other b
-only_racing ForegroundAlone b = no_other b
-only_racing BackgroundAlone b = refl
-only_racing FinalList b = no_other b
-only_racing FinalTable b = no_other b
-only_racing Done b = no_other b
 
 pub not_racing : {X : Type 0} (b : Bool) → b ≡ true → b ≡ false → X
 not_racing true on off = absurd (cc)
@@ -88,15 +81,15 @@ not_racing false on off = absurd (cc)
 
 -- Where the background ends no scan is under way.
 
-pub scans_over : (listed : Bool) → racing (next_control BackgroundOnly BackgroundAlone (ScanEnded false listed)) ≡ false
+pub scans_over : (listed : Bool) → scanning (next_control BackgroundOnly BackgroundAlone (ScanEnded false listed)) ≡ false
 scans_over true = refl
 scans_over false = refl
 
-pub scan_dropped : (listed : Bool) → racing (next_control BackgroundOnly BackgroundAlone (Ruled AbandonScan false listed)) ≡ false
+pub scan_dropped : (listed : Bool) → scanning (next_control BackgroundOnly BackgroundAlone (Ruled AbandonScan false listed)) ≡ false
 scan_dropped true = refl
 scan_dropped false = refl
 
-pub all_dropped : (more listed : Bool) → racing (next_control BackgroundOnly BackgroundAlone (Ruled AbandonBackground more listed)) ≡ false
+pub all_dropped : (more listed : Bool) → scanning (next_control BackgroundOnly BackgroundAlone (Ruled AbandonBackground more listed)) ≡ false
 all_dropped more true = refl
 all_dropped more false = refl
 
@@ -106,7 +99,7 @@ record Overs (p planned q : ℕ) (new : Raced) : Type 0 where
   placed : Placed p planned new
   fewer : race_ahead p planned new ≤ q
 
-going_over : (p planned q : ℕ) (r : Raced) → length r.plans ≡ planned → planned ≤ length r.counts → r.guaranteed ≤ p → racing r.control ≡ true → Runs planned r.running → rest_sum p planned r.counts r.running ≤ q → more r ≡ true → Overs p planned q (going_on r)
+going_over : (p planned q : ℕ) (r : Raced) → length r.plans ≡ planned → planned ≤ length r.counts → r.guaranteed ≤ p → scanning r.control ≡ true → Runs planned r.running → rest_sum p planned r.counts r.running ≤ q → more r ≡ true → Overs p planned q (going_on r)
 going_over p planned q r plans room less on runs left goes =
     let next : has_next planned r.running ≡ true = sym (ap (λ (n : ℕ). has_next n r.running) plans) ∙ first_so (has_next (length r.plans) r.running) _ goes in
     let same : race_sum p planned r.counts (advanced (is_some r.list) (length r.plans) r.running) ≡ race_sum p planned r.counts (advanced (is_some r.list) planned r.running) = ap (λ (n : ℕ). race_sum p planned r.counts (advanced (is_some r.list) n r.running)) plans in
@@ -115,15 +108,15 @@ going_over p planned q r plans room less on runs left goes =
       fewer = less_by (race_ahead p planned (going_on r)) (race_sum p planned r.counts (advanced (is_some r.list) planned r.running)) q (racing_left p planned (going_on r) on ∙ same) (le_on (race_sum p planned r.counts (advanced (is_some r.list) planned r.running)) (rest_sum p planned r.counts r.running) q (advanced_fewer p planned r.counts (is_some r.list) r.running next) left);
     }
 
-gone_over : (p planned q : ℕ) (h : Happening) (r : Raced) → length r.plans ≡ planned → planned ≤ length r.counts → r.guaranteed ≤ p → racing (next_control BackgroundOnly r.control h) ≡ false → Overs p planned q (gone h r)
+gone_over : (p planned q : ℕ) (h : Happening) (r : Raced) → length r.plans ≡ planned → planned ≤ length r.counts → r.guaranteed ≤ p → scanning (next_control BackgroundOnly r.control h) ≡ false → Overs p planned q (gone h r)
 gone_over p planned q h r plans room less off = record {
-  placed = record { plans = plans; room = room; less = less; runs = λ on. not_racing (racing (next_control BackgroundOnly r.control h)) on off };
+  placed = record { plans = plans; room = room; less = less; runs = λ on. not_racing (scanning (next_control BackgroundOnly r.control h)) on off };
   fewer = zero_most (race_ahead p planned (gone h r)) q (idle_left p planned (gone h r) off);
 }
 
 -- The judge rules.
 
-dropped_over : (p planned q : ℕ) (r : Raced) → length r.plans ≡ planned → planned ≤ length r.counts → r.guaranteed ≤ p → racing r.control ≡ true → Runs planned r.running → rest_sum p planned r.counts r.running ≤ q → Overs p planned q (dropped r)
+dropped_over : (p planned q : ℕ) (r : Raced) → length r.plans ≡ planned → planned ≤ length r.counts → r.guaranteed ≤ p → scanning r.control ≡ true → Runs planned r.running → rest_sum p planned r.counts r.running ≤ q → Overs p planned q (dropped r)
 dropped_over p planned q r plans room less on runs left = by (more r) refl
   where
     t : Raced
@@ -132,37 +125,37 @@ dropped_over p planned q r plans room less on runs left = by (more r) refl
     by : (b : Bool) → more r ≡ b → Overs p planned q (over b (Ruled AbandonScan b (is_some r.list)) t)
     by true goes = going_over p planned q t plans room less on runs left goes
     by false goes =
-        let off : racing (next_control BackgroundOnly r.control (Ruled AbandonScan false (is_some r.list))) ≡ false = ap (λ (c : Control). racing (next_control BackgroundOnly c (Ruled AbandonScan false (is_some r.list)))) (only_racing r.control on) ∙ scan_dropped (is_some r.list) in
+        let off : scanning (next_control BackgroundOnly r.control (Ruled AbandonScan false (is_some r.list))) ≡ false = ap (λ (c : Control). scanning (next_control BackgroundOnly c (Ruled AbandonScan false (is_some r.list)))) (only_scanning r.control on) ∙ scan_dropped (is_some r.list) in
         gone_over p planned q (Ruled AbandonScan false (is_some r.list)) t plans room less off
 
-stopped_over : (p planned q : ℕ) (r : Raced) → length r.plans ≡ planned → planned ≤ length r.counts → r.guaranteed ≤ p → racing r.control ≡ true → Overs p planned q (stopped r)
+stopped_over : (p planned q : ℕ) (r : Raced) → length r.plans ≡ planned → planned ≤ length r.counts → r.guaranteed ≤ p → scanning r.control ≡ true → Overs p planned q (stopped r)
 stopped_over p planned q r plans room less on =
-    let off : racing (next_control BackgroundOnly r.control (Ruled AbandonBackground (more r) (is_some r.list))) ≡ false = ap (λ (c : Control). racing (next_control BackgroundOnly c (Ruled AbandonBackground (more r) (is_some r.list)))) (only_racing r.control on) ∙ all_dropped (more r) (is_some r.list) in
+    let off : scanning (next_control BackgroundOnly r.control (Ruled AbandonBackground (more r) (is_some r.list))) ≡ false = ap (λ (c : Control). scanning (next_control BackgroundOnly c (Ruled AbandonBackground (more r) (is_some r.list)))) (only_scanning r.control on) ∙ all_dropped (more r) (is_some r.list) in
     record {
-      placed = record { plans = plans; room = room; less = less; runs = λ h. not_racing (racing (next_control BackgroundOnly r.control (Ruled AbandonBackground (more r) (is_some r.list)))) h off };
+      placed = record { plans = plans; room = room; less = less; runs = λ h. not_racing (scanning (next_control BackgroundOnly r.control (Ruled AbandonBackground (more r) (is_some r.list)))) h off };
       fewer = zero_most (race_ahead p planned (stopped r)) q (idle_left p planned (stopped r) off);
     }
 
-passed_over : (p planned q : ℕ) (r : Raced) → length r.plans ≡ planned → planned ≤ length r.counts → r.guaranteed ≤ p → racing r.control ≡ true → Runs planned r.running → race_sum p planned r.counts r.running ≤ q → Overs p planned q (passed_on r)
+passed_over : (p planned q : ℕ) (r : Raced) → length r.plans ≡ planned → planned ≤ length r.counts → r.guaranteed ≤ p → scanning r.control ≡ true → Runs planned r.running → race_sum p planned r.counts r.running ≤ q → Overs p planned q (passed_on r)
 passed_over p planned q r plans room less on runs left = record {
   placed = record { plans = plans; room = room; less = less; runs = λ h. turned_runs planned r.running runs };
   fewer = less_by (race_ahead p planned (passed_on r)) (race_sum p planned r.counts (turned r.running)) q (racing_left p planned (passed_on r) on) (le_on (race_sum p planned r.counts (turned r.running)) (race_sum p planned r.counts r.running) q (turned_fewer p planned r.counts r.running) left);
 }
 
 -- where the scan goes on its leaves ahead stand by the rule, where it is dropped those of the others are left
-ruled_over : (p planned q : ℕ) (verdict : Verdict) (r : Raced) → length r.plans ≡ planned → planned ≤ length r.counts → r.guaranteed ≤ p → racing r.control ≡ true → Runs planned r.running → (goes_on verdict ≡ true → race_sum p planned r.counts r.running ≤ q) → rest_sum p planned r.counts r.running ≤ q → Overs p planned q (ruled verdict r)
+ruled_over : (p planned q : ℕ) (verdict : Verdict) (r : Raced) → length r.plans ≡ planned → planned ≤ length r.counts → r.guaranteed ≤ p → scanning r.control ≡ true → Runs planned r.running → (goes_on verdict ≡ true → race_sum p planned r.counts r.running ≤ q) → rest_sum p planned r.counts r.running ≤ q → Overs p planned q (ruled verdict r)
 ruled_over p planned q Continue r plans room less on runs goes rest = passed_over p planned q r plans room less on runs (goes refl)
 ruled_over p planned q AbandonScan r plans room less on runs goes rest = dropped_over p planned q r plans room less on runs rest
 ruled_over p planned q AbandonForeground r plans room less on runs goes rest = passed_over p planned q r plans room less on runs (goes refl)
 ruled_over p planned q AbandonBackground r plans room less on runs goes rest = stopped_over p planned q r plans room less on
 
-ended_over : (p planned q : ℕ) (r : Raced) → length r.plans ≡ planned → planned ≤ length r.counts → r.guaranteed ≤ p → racing r.control ≡ true → Runs planned r.running → rest_sum p planned r.counts r.running ≤ q → Overs p planned q (ended r)
+ended_over : (p planned q : ℕ) (r : Raced) → length r.plans ≡ planned → planned ≤ length r.counts → r.guaranteed ≤ p → scanning r.control ≡ true → Runs planned r.running → rest_sum p planned r.counts r.running ≤ q → Overs p planned q (ended r)
 ended_over p planned q r plans room less on runs left = by (more r) refl
   where
     by : (b : Bool) → more r ≡ b → Overs p planned q (over b (ScanEnded b true) r)
     by true goes = going_over p planned q r plans room less on runs left goes
     by false goes =
-        let off : racing (next_control BackgroundOnly r.control (ScanEnded false true)) ≡ false = ap (λ (c : Control). racing (next_control BackgroundOnly c (ScanEnded false true))) (only_racing r.control on) ∙ scans_over true in
+        let off : scanning (next_control BackgroundOnly r.control (ScanEnded false true)) ≡ false = ap (λ (c : Control). scanning (next_control BackgroundOnly c (ScanEnded false true))) (only_scanning r.control on) ∙ scans_over true in
         gone_over p planned q (ScanEnded false true) r plans room less off
 
 -- A PIECE IS GIVEN.
@@ -199,7 +192,7 @@ pub below_room : (a b c d : ℕ) → a < b → b ≤ c → c ≤ d → a < d
 below_room a b c d h m n = omega (arith, h, m, n)
 
 -- the scan goes on, and the judge rules
-judged_over : (p planned : ℕ) (would : ℕ → Facts → Ruling) (state : ℕ) (piece : Pieced) (old : Raced) (verdict : Verdict) → IsBounded would → Placed p planned old → racing old.control ≡ true → verdict ≡ (would state (facts_of (accepted piece false old))).verdict → Overs p planned (race_sum p planned old.counts old.running) (ruled verdict (accepted piece false old))
+judged_over : (p planned : ℕ) (would : ℕ → Facts → Ruling) (state : ℕ) (piece : Pieced) (old : Raced) (verdict : Verdict) → IsBounded would → Placed p planned old → scanning old.control ≡ true → verdict ≡ (would state (facts_of (accepted piece false old))).verdict → Overs p planned (race_sum p planned old.counts old.running) (ruled verdict (accepted piece false old))
 judged_over p planned would state piece old verdict rule w on is =
     let v = accepted piece false old in
     let runs = w.runs on in
@@ -237,7 +230,7 @@ other_below (Some x) next planned size h m n = below_room x.scan next planned si
 least_of : (n g p : ℕ) → g ≤ p → min n g ≤ p
 least_of n g p h = omega (arith, h)
 
-completed_over : (p planned : ℕ) (piece : Pieced) (old : Raced) (keys : List ℕ) → Placed p planned old → racing old.control ≡ true → Overs p planned (race_sum p planned old.counts old.running) (ended (listed keys (accepted piece true old)))
+completed_over : (p planned : ℕ) (piece : Pieced) (old : Raced) (keys : List ℕ) → Placed p planned old → scanning old.control ≡ true → Overs p planned (race_sum p planned old.counts old.running) (ended (listed keys (accepted piece true old)))
 completed_over p planned piece old keys w on =
     let v = accepted piece true old in
     let r = listed keys v in
@@ -253,7 +246,7 @@ record Lowers (p planned : ℕ) (old new : Raced) : Type 0 where
   placed : Placed p planned new
   fewer : race_ahead p planned new ≤ race_ahead p planned old
 
-given_lowers : (p planned : ℕ) (would : ℕ → Facts → Ruling) (state after : ℕ) (piece : Pieced) (old new : Raced) → IsBounded would → Placed p planned old → racing old.control ≡ true → Obeys would state after piece (held_next (turn_lane old).held) old new → Lowers p planned old new
+given_lowers : (p planned : ℕ) (would : ℕ → Facts → Ruling) (state after : ℕ) (piece : Pieced) (old new : Raced) → IsBounded would → Placed p planned old → scanning old.control ≡ true → Obeys would state after piece (held_next (turn_lane old).held) old new → Lowers p planned old new
 given_lowers p planned would state after piece old new rule w on obeys = by (held_next (turn_lane old).held) obeys
   where
     less_to : (a q had : ℕ) → a ≤ q → had ≡ q → a ≤ had
@@ -290,8 +283,8 @@ counts_room r = by (reads_leaf r)
     by true = length-set r.counts (turn_scan r) (leaf_counted (counts_at r.counts (turn_scan r)))
     by false = refl
 
-is_racing : (r : Raced) → reads_leaf r ≡ true → racing r.control ≡ true
-is_racing r h = first_so (racing r.control) _ h
+is_racing : (r : Raced) → reads_leaf r ≡ true → scanning r.control ≡ true
+is_racing r h = first_so (scanning r.control) _ h
 
 -- the scan whose turn it is holds a leaf, or none
 abbrev lane_held : Option Chunk → Raced → Running
@@ -311,14 +304,14 @@ read_ahead p planned r held small w reads has =
     let runs = w.runs (is_racing r reads) in
     let lt = below_room (turn_scan r) r.running.next planned (length r.counts) runs.turn runs.next w.room in
     let in_plan = below_room (turn_scan r) r.running.next planned planned runs.turn runs.next (at_most planned) in
-    took_sum (race_sum p planned (one_leaf r) (lane_held held r)) (race_sum p planned r.counts r.running) (to_read p r.running.next (planned - r.running.next)) (other_left p r.counts r.running.other) (other_left p (one_leaf r) r.running.other) (share p (turn_scan r)) (counts_at r.counts (turn_scan r)).leaves (counts_at (one_leaf r) (turn_scan r)).leaves (held_one held) (held_one (turn_lane r).held) greatest refl refl (other_same p r.counts (turn_scan r) (leaf_counted (counts_at r.counts (turn_scan r))) r.running.other runs.apart) (leaf_after r lt) (one_held held has) (none_held (racing r.control) (turn_lane r).held reads) (small_share p (turn_scan r) planned in_plan small)
+    took_sum (race_sum p planned (one_leaf r) (lane_held held r)) (race_sum p planned r.counts r.running) (to_read p r.running.next (planned - r.running.next)) (other_left p r.counts r.running.other) (other_left p (one_leaf r) r.running.other) (share p (turn_scan r)) (counts_at r.counts (turn_scan r)).leaves (counts_at (one_leaf r) (turn_scan r)).leaves (held_one held) (held_one (turn_lane r).held) greatest refl refl (other_same p r.counts (turn_scan r) (leaf_counted (counts_at r.counts (turn_scan r))) r.running.other runs.apart) (leaf_after r lt) (one_held held has) (none_held (scanning r.control) (turn_lane r).held reads) (small_share p (turn_scan r) planned in_plan small)
 
 lost_ahead : (p planned : ℕ) (r : Raced) (held : Option Chunk) → p + 2 * planned < greatest → Placed p planned r → reads_leaf r ≡ true → race_sum p planned (one_leaf r) (lane_held held r) ≤ race_sum p planned r.counts r.running
 lost_ahead p planned r held small w reads =
     let runs = w.runs (is_racing r reads) in
     let lt = below_room (turn_scan r) r.running.next planned (length r.counts) runs.turn runs.next w.room in
     let in_plan = below_room (turn_scan r) r.running.next planned planned runs.turn runs.next (at_most planned) in
-    lost_sum (race_sum p planned (one_leaf r) (lane_held held r)) (race_sum p planned r.counts r.running) (to_read p r.running.next (planned - r.running.next)) (other_left p r.counts r.running.other) (other_left p (one_leaf r) r.running.other) (share p (turn_scan r)) (counts_at r.counts (turn_scan r)).leaves (counts_at (one_leaf r) (turn_scan r)).leaves (held_one held) (held_one (turn_lane r).held) greatest refl refl (other_same p r.counts (turn_scan r) (leaf_counted (counts_at r.counts (turn_scan r))) r.running.other runs.apart) (leaf_after r lt) (none_held (racing r.control) (turn_lane r).held reads) (small_share p (turn_scan r) planned in_plan small)
+    lost_sum (race_sum p planned (one_leaf r) (lane_held held r)) (race_sum p planned r.counts r.running) (to_read p r.running.next (planned - r.running.next)) (other_left p r.counts r.running.other) (other_left p (one_leaf r) r.running.other) (share p (turn_scan r)) (counts_at r.counts (turn_scan r)).leaves (counts_at (one_leaf r) (turn_scan r)).leaves (held_one held) (held_one (turn_lane r).held) greatest refl refl (other_same p r.counts (turn_scan r) (leaf_counted (counts_at r.counts (turn_scan r))) r.running.other runs.apart) (leaf_after r lt) (none_held (scanning r.control) (turn_lane r).held reads) (small_share p (turn_scan r) planned in_plan small)
 
 -- what a leaf that is taken, or not, leaves: the scan whose turn it is may hold it, and it is counted
 pub record Leafs (old new : Raced) : Type 0 where
@@ -334,7 +327,7 @@ leafs_placed p planned old new w t = record {
   room = subst (λ (n : ℕ). planned ≤ n) (sym (ap length t.counts ∙ counts_room old)) w.room;
   less = subst (λ (n : ℕ). n ≤ p) (sym t.guaranteed) w.less;
   runs = λ on.
-      let runs = w.runs (sym (ap racing t.control) ∙ on) in
+      let runs = w.runs (sym (ap scanning t.control) ∙ on) in
       let own : Runs planned (lane_held (turn_lane new).held old) = record { turn = runs.turn; other = runs.other; apart = runs.apart; next = runs.next } in
       subst (Runs planned) (sym t.running) own;
 }
@@ -344,12 +337,12 @@ leafs_sum p planned old new t b e =
     ap (λ (w : Running). race_sum p planned new.counts w) t.running ∙ ap (λ (cs : List ScanCounts). race_sum p planned cs (lane_held (turn_lane new).held old)) (t.counts ∙ ap (λ (x : Bool). if x then one_leaf old else old.counts) e)
 
 -- the leaves ahead where scans are under way and where none is
-ahead_by : (p planned : ℕ) (old new : Raced) → Leafs old new → (racing old.control ≡ true → race_sum p planned new.counts new.running ≤ race_sum p planned old.counts old.running) → race_ahead p planned new ≤ race_ahead p planned old
-ahead_by p planned old new t less = by (racing old.control) refl
+ahead_by : (p planned : ℕ) (old new : Raced) → Leafs old new → (scanning old.control ≡ true → race_sum p planned new.counts new.running ≤ race_sum p planned old.counts old.running) → race_ahead p planned new ≤ race_ahead p planned old
+ahead_by p planned old new t less = by (scanning old.control) refl
   where
-    by : (b : Bool) → racing old.control ≡ b → race_ahead p planned new ≤ race_ahead p planned old
-    by true on = both_less (race_ahead p planned new) (race_ahead p planned old) (race_sum p planned new.counts new.running) (race_sum p planned old.counts old.running) (racing_left p planned new (ap racing t.control ∙ on)) (racing_left p planned old on) (less on)
-    by false off = none (race_ahead p planned new) (race_ahead p planned old) (idle_left p planned new (ap racing t.control ∙ off))
+    by : (b : Bool) → scanning old.control ≡ b → race_ahead p planned new ≤ race_ahead p planned old
+    by true on = both_less (race_ahead p planned new) (race_ahead p planned old) (race_sum p planned new.counts new.running) (race_sum p planned old.counts old.running) (racing_left p planned new (ap scanning t.control ∙ on)) (racing_left p planned old on) (less on)
+    by false off = none (race_ahead p planned new) (race_ahead p planned old) (idle_left p planned new (ap scanning t.control ∙ off))
       where
         none : (a b : ℕ) → a ≡ 0 → a ≤ b
         none a b e = omega (arith, e)
@@ -358,7 +351,7 @@ ahead_by p planned old new t less = by (racing old.control) refl
 leafs_read : (p planned : ℕ) (old new : Raced) → p + 2 * planned < greatest → Placed p planned old → Leafs old new → reads_leaf old ≡ true → is_some (turn_lane new).held ≡ true → race_ahead p planned new + 1 ≤ race_ahead p planned old
 leafs_read p planned old new small w t reads has =
     let on = is_racing old reads in
-    both (race_ahead p planned new) (race_ahead p planned old) (race_sum p planned (one_leaf old) (lane_held (turn_lane new).held old)) (race_sum p planned old.counts old.running) (racing_left p planned new (ap racing t.control ∙ on) ∙ leafs_sum p planned old new t true reads) (racing_left p planned old on) (read_ahead p planned old (turn_lane new).held small w reads has)
+    both (race_ahead p planned new) (race_ahead p planned old) (race_sum p planned (one_leaf old) (lane_held (turn_lane new).held old)) (race_sum p planned old.counts old.running) (racing_left p planned new (ap scanning t.control ∙ on) ∙ leafs_sum p planned old new t true reads) (racing_left p planned old on) (read_ahead p planned old (turn_lane new).held small w reads has)
   where
     both : (a b c d : ℕ) → a ≡ c → b ≡ d → c + 1 ≤ d → a + 1 ≤ b
     both a b c d e f h = omega (arith, e, f, h)
@@ -368,7 +361,7 @@ leafs_lost : (p planned : ℕ) (old new : Raced) → p + 2 * planned < greatest 
 leafs_lost p planned old new small w t reads = ahead_by p planned old new t (λ on. less_by (race_sum p planned new.counts new.running) (race_sum p planned (one_leaf old) (lane_held (turn_lane new).held old)) (race_sum p planned old.counts old.running) (leafs_sum p planned old new t true reads) (lost_ahead p planned old (turn_lane new).held small w reads))
 
 -- none is read
-leafs_none : (p planned : ℕ) (old new : Raced) → Leafs old new → reads_leaf old ≡ false → (racing old.control ≡ true → new.running ≡ old.running) → race_ahead p planned new ≤ race_ahead p planned old
+leafs_none : (p planned : ℕ) (old new : Raced) → Leafs old new → reads_leaf old ≡ false → (scanning old.control ≡ true → new.running ≡ old.running) → race_ahead p planned new ≤ race_ahead p planned old
 leafs_none p planned old new t none same = ahead_by p planned old new t (λ on. same_less (race_sum p planned new.counts new.running) (race_sum p planned old.counts old.running) (ap (λ (w : Running). race_sum p planned new.counts w) (same on) ∙ ap (λ (cs : List ScanCounts). race_sum p planned cs old.running) (t.counts ∙ ap (λ (x : Bool). if x then one_leaf old else old.counts) none)))
 
 -- Counts.
@@ -393,9 +386,9 @@ takes_leafs old new t = record {
   guaranteed = ap (λ (x : Raced). x.guaranteed) t.same;
 }
 
-takes_held : (taken : Taken) (new : Raced) → racing new.control ≡ true → TakesPiece new taken → is_some (turn_lane new).held ≡ true
+takes_held : (taken : Taken) (new : Raced) → scanning new.control ≡ true → TakesPiece new taken → is_some (turn_lane new).held ≡ true
 takes_held (Piece piece) new on answers = has_held (turn_lane new).held piece.entries answers.own.entries
-takes_held Nothing new on answers = not_racing (racing new.control) on answers
+takes_held Nothing new on answers = not_racing (scanning new.control) on answers
 
 pub take_spends : (p planned : ℕ) (taken : Taken) (old new : Raced) → p + 2 * planned < greatest → Placed p planned old → RaceTakes (Some taken) old new → RaceSpends p planned 0 old new
 take_spends p planned taken old new small w takes = record { placed = leafs_placed p planned old new w leafs; fewer = read (reads_leaf old) refl }
@@ -405,7 +398,7 @@ take_spends p planned taken old new small w takes = record { placed = leafs_plac
 
     read : (b : Bool) → reads_leaf old ≡ b → new.trace.leaves + race_ahead p planned new ≤ old.trace.leaves + race_ahead p planned old + 0
     read true r =
-        let on = ap racing leafs.control ∙ is_racing old r in
+        let on = ap scanning leafs.control ∙ is_racing old r in
         sum_read new.trace.leaves old.trace.leaves (race_ahead p planned new) (race_ahead p planned old) (rise_one new.trace.leaves old.trace.leaves takes.before.leaves takes.behind.leaves greatest takes.counts.leaves (subst (λ (c : Counts). c.leaves ≤ takes.before.leaves + 1) (sym takes.reads) (piece_one old takes.before))) (leafs_read p planned old new small w leafs r (takes_held taken new on takes.answers))
     read false r =
         sum_none new.trace.leaves old.trace.leaves (race_ahead p planned new) (race_ahead p planned old) (rise_none new.trace.leaves old.trace.leaves takes.before.leaves takes.behind.leaves greatest takes.counts.leaves (ap (λ (c : Counts). c.leaves) (takes.reads ∙ piece_none old takes.before r))) (leafs_none p planned old new leafs r (λ on. takes.leaves.none r))
@@ -448,10 +441,10 @@ held_sum : (new old begin other share spent held had : ℕ) → new ≡ begin + 
 held_sum new old begin other share spent held had n o h = omega (arith, n, o, h)
 
 -- beside the scans no leaf is read
-pub idle_spends : (p planned : ℕ) (old new : Raced) (c d : Counts) → Placed p planned old → Leafs old new → racing old.control ≡ false → CountsRise old.trace new.trace c d → d.leaves ≡ c.leaves → RaceSpends p planned 0 old new
+pub idle_spends : (p planned : ℕ) (old new : Raced) (c d : Counts) → Placed p planned old → Leafs old new → scanning old.control ≡ false → CountsRise old.trace new.trace c d → d.leaves ≡ c.leaves → RaceSpends p planned 0 old new
 idle_spends p planned old new c d w leafs off rise none = record {
   placed = leafs_placed p planned old new w leafs;
-  fewer = sum_none new.trace.leaves old.trace.leaves (race_ahead p planned new) (race_ahead p planned old) (rise_none new.trace.leaves old.trace.leaves c.leaves d.leaves greatest rise.leaves none) (zero_most (race_ahead p planned new) (race_ahead p planned old) (idle_left p planned new (ap racing leafs.control ∙ off)));
+  fewer = sum_none new.trace.leaves old.trace.leaves (race_ahead p planned new) (race_ahead p planned old) (rise_none new.trace.leaves old.trace.leaves c.leaves d.leaves greatest rise.leaves none) (zero_most (race_ahead p planned new) (race_ahead p planned old) (idle_left p planned new (ap scanning leafs.control ∙ off)));
 }
 
 pub step_lost : (p planned : ℕ) (old new : Raced) → p + 2 * planned < greatest → Placed p planned old → RaceStepsLost old new → RaceSpends p planned 1 old new
@@ -470,14 +463,14 @@ step_lost p planned old new small w lost = record {
     lane_counts b = if b then one_leaf old else old.counts
 
     unread : reads_leaf old ≡ false → new.trace.leaves + race_ahead p planned new ≤ old.trace.leaves + race_ahead p planned old + 1
-    unread r = both (racing old.control) refl
+    unread r = both (scanning old.control) refl
       where
-        both : (b : Bool) → racing old.control ≡ b → new.trace.leaves + race_ahead p planned new ≤ old.trace.leaves + race_ahead p planned old + 1
+        both : (b : Bool) → scanning old.control ≡ b → new.trace.leaves + race_ahead p planned new ≤ old.trace.leaves + race_ahead p planned old + 1
         both true on =
-            let reads : lost.behind ≡ lost.before = subst (λ (c : Control). MayRead c old lost.before lost.behind) (only_racing old.control on) lost.may_read ∙ piece_none old lost.before r in
+            let reads : lost.behind ≡ lost.before = subst (λ (c : Control). MayRead c old lost.before lost.behind) (only_scanning old.control on) lost.may_read ∙ piece_none old lost.before r in
             let sum : race_sum p planned (lane_counts false) (lane_held (turn_lane new).held old) ≤ race_sum p planned old.counts old.running + 1 = held_sum (race_sum p planned (lane_counts false) (lane_held (turn_lane new).held old)) (race_sum p planned old.counts old.running) (to_read p old.running.next (planned - old.running.next)) (other_left p old.counts old.running.other) (share p (turn_scan old)) (counts_at old.counts (turn_scan old)).leaves (held_one (turn_lane new).held) (held_one (turn_lane old).held) refl refl (held_few (turn_lane old).held) in
-            sum_more new.trace.leaves old.trace.leaves (race_ahead p planned new) (race_ahead p planned old) (rise_none new.trace.leaves old.trace.leaves lost.before.leaves lost.behind.leaves greatest lost.counts.leaves (ap (λ (c : Counts). c.leaves) reads)) (both_more (race_ahead p planned new) (race_ahead p planned old) (race_sum p planned (lane_counts false) (lane_held (turn_lane new).held old)) (race_sum p planned old.counts old.running) (racing_left p planned new (ap racing leafs.control ∙ on) ∙ leafs_sum p planned old new leafs false r) (racing_left p planned old on) sum)
-        both false off = sum_lost new.trace.leaves old.trace.leaves (race_ahead p planned new) (race_ahead p planned old) now (leafs_none p planned old new leafs r (λ on. not_racing (racing old.control) on off))
+            sum_more new.trace.leaves old.trace.leaves (race_ahead p planned new) (race_ahead p planned old) (rise_none new.trace.leaves old.trace.leaves lost.before.leaves lost.behind.leaves greatest lost.counts.leaves (ap (λ (c : Counts). c.leaves) reads)) (both_more (race_ahead p planned new) (race_ahead p planned old) (race_sum p planned (lane_counts false) (lane_held (turn_lane new).held old)) (race_sum p planned old.counts old.running) (racing_left p planned new (ap scanning leafs.control ∙ on) ∙ leafs_sum p planned old new leafs false r) (racing_left p planned old on) sum)
+        both false off = sum_lost new.trace.leaves old.trace.leaves (race_ahead p planned new) (race_ahead p planned old) now (leafs_none p planned old new leafs r (λ on. not_racing (scanning old.control) on off))
 
     by : (b : Bool) → reads_leaf old ≡ b → new.trace.leaves + race_ahead p planned new ≤ old.trace.leaves + race_ahead p planned old + 1
     by true r = sum_lost new.trace.leaves old.trace.leaves (race_ahead p planned new) (race_ahead p planned old) now (leafs_lost p planned old new small w leafs r)
@@ -486,7 +479,7 @@ step_lost p planned old new small w lost = record {
 -- A STEP
 
 -- what becomes of the leaves ahead beside the scans
-stage_lowers : (p planned : ℕ) (s : Stepped Record) (old v new : Raced) → Placed p planned old → racing old.control ≡ false → v.plans ≡ old.plans → v.counts ≡ old.counts → v.guaranteed ≡ old.guaranteed → v.control ≡ old.control → racing (next_control BackgroundOnly old.control FinalEnded) ≡ false → new ≡ ended_by s v → Placed p planned new × (race_ahead p planned new ≡ 0)
+stage_lowers : (p planned : ℕ) (s : Stepped Record) (old v new : Raced) → Placed p planned old → scanning old.control ≡ false → v.plans ≡ old.plans → v.counts ≡ old.counts → v.guaranteed ≡ old.guaranteed → v.control ≡ old.control → scanning (next_control BackgroundOnly old.control FinalEnded) ≡ false → new ≡ ended_by s v → Placed p planned new × (race_ahead p planned new ≡ 0)
 stage_lowers p planned s old v new w off plans counts guaranteed control over e = subst (λ (x : Raced). Placed p planned x × (race_ahead p planned x ≡ 0)) (sym e) (by s)
   where
     still : Placed p planned v
@@ -494,19 +487,19 @@ stage_lowers p planned s old v new w off plans counts guaranteed control over e 
       plans = ap length plans ∙ w.plans;
       room = subst (λ (n : ℕ). planned ≤ n) (sym (ap length counts)) w.room;
       less = subst (λ (n : ℕ). n ≤ p) (sym guaranteed) w.less;
-      runs = λ on. not_racing (racing v.control) on (ap racing control ∙ off);
+      runs = λ on. not_racing (scanning v.control) on (ap scanning control ∙ off);
     }
 
     idle : race_ahead p planned v ≡ 0
-    idle = idle_left p planned v (ap racing control ∙ off)
+    idle = idle_left p planned v (ap scanning control ∙ off)
 
-    gone_off : racing (next_control BackgroundOnly v.control FinalEnded) ≡ false
-    gone_off = ap (λ (c : Control). racing (next_control BackgroundOnly c FinalEnded)) control ∙ over
+    gone_off : scanning (next_control BackgroundOnly v.control FinalEnded) ≡ false
+    gone_off = ap (λ (c : Control). scanning (next_control BackgroundOnly c FinalEnded)) control ∙ over
 
     by : (s : Stepped Record) → Placed p planned (ended_by s v) × (race_ahead p planned (ended_by s v) ≡ 0)
     by (Row r) = (still, idle)
     by Working = (still, idle)
-    by End = (record { plans = still.plans; room = still.room; less = still.less; runs = λ on. not_racing (racing (next_control BackgroundOnly v.control FinalEnded)) on gone_off }, idle_left p planned (gone FinalEnded v) gone_off)
+    by End = (record { plans = still.plans; room = still.room; less = still.less; runs = λ on. not_racing (scanning (next_control BackgroundOnly v.control FinalEnded)) on gone_off }, idle_left p planned (gone FinalEnded v) gone_off)
 
 -- what a step has done is counted behind it
 counted_placed : (p planned : ℕ) (stepped new : Raced) (c d : Counts) → new ≡ record stepped { trace = counted stepped.trace c d } → Placed p planned stepped → Placed p planned new
@@ -542,13 +535,13 @@ does_spends p planned would state after shown c d s BackgroundAlone old stepped 
     read false r =
         quiet_sum new.trace.leaves old.trace.leaves (race_ahead p planned new) (race_ahead p planned stepped) (race_ahead p planned old) (rise_none new.trace.leaves old.trace.leaves c.leaves d.leaves greatest rise.leaves (ap (λ (x : Counts). x.leaves) (does.2 ∙ piece_none old c r))) ahead_same (le_on (race_ahead p planned stepped) (race_ahead p planned one.taken) (race_ahead p planned old) given.fewer (leafs_none p planned old one.taken leafs r (λ on. one.leaves.none r)))
 does_spends p planned would state after shown c d s FinalList old stepped new small rule w is does rise e =
-    let stage = stage_lowers p planned s old (record old { at = stepped.at }) stepped w (ap racing is) refl refl refl refl (ap (λ (x : Control). racing (next_control BackgroundOnly x FinalEnded)) is) does.2 in
+    let stage = stage_lowers p planned s old (record old { at = stepped.at }) stepped w (ap scanning is) refl refl refl refl (ap (λ (x : Control). scanning (next_control BackgroundOnly x FinalEnded)) is) does.2 in
     record {
       placed = counted_placed p planned stepped new c d e stage.0;
       fewer = quiet_sum new.trace.leaves old.trace.leaves (race_ahead p planned new) (race_ahead p planned stepped) (race_ahead p planned old) (rise_none new.trace.leaves old.trace.leaves c.leaves d.leaves greatest rise.leaves (key_none (first_key old.list None old.at) old.only (rows_of old shown) c d s does.1)) (counted_ahead p planned stepped new c d e) (zero_most (race_ahead p planned stepped) (race_ahead p planned old) stage.1);
     }
 does_spends p planned would state after shown c d s FinalTable old stepped new small rule w is does rise e =
-    let stage = stage_lowers p planned s old (record old { last = stepped.last }) stepped w (ap racing is) refl refl refl refl (ap (λ (x : Control). racing (next_control BackgroundOnly x FinalEnded)) is) does.2 in
+    let stage = stage_lowers p planned s old (record old { last = stepped.last }) stepped w (ap scanning is) refl refl refl refl (ap (λ (x : Control). scanning (next_control BackgroundOnly x FinalEnded)) is) does.2 in
     record {
       placed = counted_placed p planned stepped new c d e stage.0;
       fewer = quiet_sum new.trace.leaves old.trace.leaves (race_ahead p planned new) (race_ahead p planned stepped) (race_ahead p planned old) (rise_none new.trace.leaves old.trace.leaves c.leaves d.leaves greatest rise.leaves (page_none s c d does.1)) (counted_ahead p planned stepped new c d e) (zero_most (race_ahead p planned stepped) (race_ahead p planned old) stage.1);

@@ -20,7 +20,8 @@ use Rattle.rv_choice.specs.Choice.{candidates_of}
 use Rattle.rv_choice.specs.Asked.{CanAsk}
 use Rattle.rv_retrieval.proofs.Chosen.{few_scans}
 use Rattle.rv_race.specs.Given.{TakesPiece, awaited as race_awaited, next_id, piece_read as race_read, turn_lane, turn_plan}
-use Rattle.rv_race.specs.Raced.{RaceFits, Raced, racing}
+use Rattle.rv_race.specs.Raced.{RaceFits, Raced}
+use Rattle.rv_final.specs.Shell.{scanning}
 use Rattle.rv_race.specs.Opened.{Opened as RaceOpened}
 use Rattle.rv_access.specs.declared.access.Access.{Access}
 use Rattle.rv_access.specs.declared.access.Access.TheVariants.{Competing, Racing, Uniting}
@@ -60,19 +61,19 @@ record Called (shown : Shown) (lost : ℕ) (r : RacedQuery) (b : Access) : Type 
 
 -- a piece is taken, and its leaf held or not
 held_piece : (r : Raced) (chunk : Chunk) → (turn_lane r).held ≡ Some chunk → (taken : Taken) × TakesPiece r taken
-held_piece r chunk held = by (racing r.control) refl
+held_piece r chunk held = by (scanning r.control) refl
   where
     piece : Pieced
     piece = record { id = next_id r; part = (turn_plan r).part; entries = chunk.entries }
 
-    by : (b : Bool) → racing r.control ≡ b → (taken : Taken) × TakesPiece r taken
+    by : (b : Bool) → scanning r.control ≡ b → (taken : Taken) × TakesPiece r taken
     by true on = (Piece piece, record { under_way = on; own = record { named = refl; part = refl; entries = subst (λ (h : Option Chunk). HasEntries h chunk.entries) (sym held) refl } })
     by false off = (Nothing, off)
 
-none_awaited : (r : Raced) → race_awaited r ≡ None → racing r.control ≡ false
-none_awaited r none = by (racing r.control) refl
+none_awaited : (r : Raced) → race_awaited r ≡ None → scanning r.control ≡ false
+none_awaited r none = by (scanning r.control) refl
   where
-    by : (b : Bool) → racing r.control ≡ b → racing r.control ≡ false
+    by : (b : Bool) → scanning r.control ≡ b → scanning r.control ≡ false
     by true on = absurd (let some = rw on at none in cc)
     by false off = off
 

@@ -1,11 +1,11 @@
 -- The final stage, over plain tests, numbers, controls and traces: of races and of unions, and in part of retrievals.
-use Rattle.std.proofs.Common.{◌≡◌, ◌⊎◌, ℕ, ◌-◌, List, [], Bool, true, false, not, ◌&&◌, Option, None, refl, ap, sym, ◌∙◌, arith, subst, inl, inr, Result, Ok, Err, IfOk}
+use Rattle.std.proofs.Common.{◌≡◌, ℕ, ◌-◌, List, [], Bool, true, false, not, ◌&&◌, Option, None, refl, ap, sym, ◌∙◌, arith, subst, inl, inr, Result, Ok, Err, IfOk}
 use Rattle.rv_value.specs.declared.record.Record.{Record}
 use Rattle.rv_rows.specs.Rows.{Ascend}
 use Rattle.rv_keylist.specs.Keys.{has_key}
 use Rattle.rv_judge.specs.declared.counting.Counts.{Counts}
 use Rattle.rv_judge.specs.declared.events.Control.{Control}
-use Rattle.rv_judge.specs.declared.events.Control.TheVariants.{FinalList, FinalTable, Done}
+use Rattle.rv_judge.specs.declared.events.Control.TheVariants.{Done}
 use Rattle.rv_judge.specs.declared.events.Happening.TheVariants.{FinalEnded}
 use Rattle.rv_judge.specs.declared.events.Strategy.{Strategy}
 use Rattle.rv_judge.specs.declared.events.Trace.{Trace}
@@ -18,6 +18,7 @@ use Rattle.rv_scan.specs.Places.{Place, unseen}
 use Rattle.rv_reader.specs.declared.step.Step.{Step}
 use Rattle.rv_reader.specs.declared.step.Step.TheVariants.{Row, Working, End}
 use Rattle.rv_final.specs.Rest.{StepMarks, Steps, has_row, qualifies_at, rest_by}
+use Rattle.rv_final.specs.Shell.{IsFinal}
 use Rattle.rv_final.specs.Stage.{LastFits, Unbegun, keys_left, list_left, own_pages, own_rows, table_left}
 use Rattle.rv_final.specs.Work.{Tries}
 use Rattle.rv_final.proofs.Marks.{marks_steps}
@@ -25,10 +26,6 @@ use Rattle.rv_final.proofs.Owed.{row_there}
 use Rattle.rv_final.proofs.Rests.{same_rest}
 
 -- THE END
-
--- the controls of the final stage
-abbrev pub IsFinal : Control → Type 0
-IsFinal c = (c ≡ FinalList) ⊎ (c ≡ FinalTable)
 
 pub final_done : (s : Strategy) (c : Control) → IsFinal c → next_control s c FinalEnded ≡ Done
 final_done s c (inl e) = ap (λ (x : Control). next_control s x FinalEnded) e

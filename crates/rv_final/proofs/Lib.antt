@@ -8,3 +8,4 @@ pub mod Owed
 pub mod Takings
 pub mod Givings
 pub mod Endings
+pub mod Shells

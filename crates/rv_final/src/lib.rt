@@ -2,6 +2,8 @@
 //! read. A row that was delivered before is passed over.
 #![tactic(auto)]
 
+mod shell;
 mod stage;
 
+pub use shell::Shell;
 pub use stage::{Final, examine};

@@ -37,13 +37,15 @@ use Rattle.rv_race.specs.declared.running.Running.{Running}
 use Rattle.rv_final.specs.LaneWork.{GiveSpends, effort_by, lane_work, planned_work, to_read}
 use Rattle.rv_race.specs.Effort.{effort, keys_work, other_work, racing_work, runner_work, running_work, table_work}
 use Rattle.rv_race.specs.Given.{Answers, Awaits, TakesLeaf, TakesPiece, counts_read, holding, piece_read, reads_leaf, turn_lane, turn_plan, turn_scan}
-use Rattle.rv_race.specs.Raced.{RaceFits, Raced, racing}
+use Rattle.rv_race.specs.Raced.{RaceFits, Raced}
+use Rattle.rv_final.specs.Shell.{scanning}
 use Rattle.rv_race.specs.Rulings.{GivesOn, Obeys, accepted, facts_of, going_on, gone, index_at, list_len, listed, more, narrowed_by, over, passed_on, ruled, stopped, told_over}
 use Rattle.rv_race.specs.Ways.{advanced, begun, followed, followed_by, has_next, turned, turned_to}
 use Rattle.rv_final.proofs.LaneWork.{some_leaf, read_once, passed_work}
 use Rattle.rv_final.proofs.Givings.{spends_no_more, put_if}
 use Rattle.rv_final.proofs.Takings.{built_few, leaf_tries, taken_spends}
-use Rattle.rv_race.proofs.Switches.{Leads, dropped_leads, ended_leads, is_racing, over_as, stopped_leads}
+use Rattle.rv_final.proofs.Shells.{only_scanning}
+use Rattle.rv_race.proofs.Switches.{Leads, dropped_leads, ended_leads, over_as, stopped_leads}
 use Rattle.rv_race.proofs.Takes.{took_parts}
 use Rattle.rv_race.proofs.Ways.{advanced_as, followed_as}
 
@@ -100,8 +102,8 @@ passed_list plan shown snap l admits piece keys has d next perm =
 pub effort_at : (r : Raced) (shown : Shown) (c : Control) → r.control ≡ c → effort r shown ≡ effort_by c (racing_work r shown) (keys_work r) (table_work r shown)
 effort_at r shown c e = ap (λ (x : Control). effort_by x (racing_work r shown) (keys_work r) (table_work r shown)) e
 
-effort_racing : (r : Raced) (shown : Shown) → racing r.control ≡ true → effort r shown ≡ racing_work r shown
-effort_racing r shown back = effort_at r shown BackgroundAlone (is_racing r.control back)
+effort_racing : (r : Raced) (shown : Shown) → scanning r.control ≡ true → effort r shown ≡ racing_work r shown
+effort_racing r shown back = effort_at r shown BackgroundAlone (only_scanning r.control back)
 
 list_whole : (list : Option (List ℕ)) → length (keys_left list 0) ≡ list_len list
 list_whole None = refl
@@ -122,21 +124,21 @@ gone_work h r shown leads u = by (next_control BackgroundOnly r.control h) leads
 abbrev left_work : Raced → Shown → ℕ
 left_work r shown = other_work r.plans shown r.snap r.running.other + planned_work (drop r.running.next r.plans) shown r.snap + list_len r.list + table_work r shown
 
-going_work : (r : Raced) (shown : Shown) → racing r.control ≡ true → more r ≡ true → effort (going_on r) shown ≤ left_work r shown + 1
+going_work : (r : Raced) (shown : Shown) → scanning r.control ≡ true → more r ≡ true → effort (going_on r) shown ≤ left_work r shown + 1
 going_work r shown back m =
     let is = effort_racing (going_on r) shown back in
     let work = advanced_work r.plans shown r.snap (is_some r.list) r.running (first_so _ _ m) in
     let once = read_once (turn_lane (going_on r)).held in
     omega arith
 
-over_work : (happening : Bool → Happening) (r : Raced) (shown : Shown) → racing r.control ≡ true → Unbegun r.at r.last → Leads r (next_control BackgroundOnly r.control (happening false)) → effort (over (more r) (happening (more r)) r) shown ≤ left_work r shown + 1
+over_work : (happening : Bool → Happening) (r : Raced) (shown : Shown) → scanning r.control ≡ true → Unbegun r.at r.last → Leads r (next_control BackgroundOnly r.control (happening false)) → effort (over (more r) (happening (more r)) r) shown ≤ left_work r shown + 1
 over_work happening r shown back u leads = over_as (λ x. effort x shown ≤ left_work r shown + 1) happening r (going_work r shown back) (λ m. let less = gone_work (happening false) r shown leads u in omega arith)
 
 -- a verdict raises nothing
-ruled_work : (verdict : Verdict) (r : Raced) (shown : Shown) → racing r.control ≡ true → Unbegun r.at r.last → (turn_lane r).held ≡ None → effort (ruled verdict r) shown ≤ racing_work r shown
+ruled_work : (verdict : Verdict) (r : Raced) (shown : Shown) → scanning r.control ≡ true → Unbegun r.at r.last → (turn_lane r).held ≡ None → effort (ruled verdict r) shown ≤ racing_work r shown
 ruled_work Continue r shown back u none = passed_less r shown back none
   where
-    passed_less : (r : Raced) (shown : Shown) → racing r.control ≡ true → (turn_lane r).held ≡ None → effort (passed_on r) shown ≤ racing_work r shown
+    passed_less : (r : Raced) (shown : Shown) → scanning r.control ≡ true → (turn_lane r).held ≡ None → effort (passed_on r) shown ≤ racing_work r shown
     passed_less r shown back none =
         let is = effort_racing (passed_on r) shown back in
         let work = turned_work r.plans shown r.snap r.running in
@@ -172,13 +174,13 @@ obeyed_work would state after piece old new shown (Some cut) a e o f =
     let was = effort_racing old shown a.under_way in
     let less = accepted_work old piece cut shown a e f in
     let rules = ap (λ (x : Raced). effort x shown) o.0 in
-    let ruling = ruled_work (would state (facts_of mid)).verdict mid shown a.under_way (f.unbegun a.under_way) refl in
+    let ruling = ruled_work (would state (facts_of mid)).verdict mid shown a.under_way (f.shell.unbegun a.under_way) refl in
     omega arith
 obeyed_work would state after piece old new shown None a e o f =
     let mid = listed o.0.keys (accepted piece true old) in
     let was = effort_racing old shown a.under_way in
     let ends = ap (λ (x : Raced). effort x shown) o.0.ends in
-    let less = over_work (λ b. ScanEnded b true) mid shown a.under_way (f.unbegun a.under_way) (ended_leads mid a.under_way refl) in
+    let less = over_work (λ b. ScanEnded b true) mid shown a.under_way (f.shell.unbegun a.under_way) (ended_leads mid a.under_way refl) in
     let list = passed_list (turn_plan old) shown old.snap (turn_lane old) (may old.list) piece o.0.keys a.own.entries f.running.turn.lane.drawn e o.0.built in
     let narrow = narrowed_work old.plans shown old.snap o.0.keys old.running.other in
     omega arith
@@ -197,7 +199,7 @@ piece_falls would state after piece old new shown a o f = obeyed_work would stat
 
 -- WHAT A TAKE SPENDS
 
-held_effort : (old : Raced) (h : Option Chunk) (t : Trace) (shown : Shown) → racing old.control ≡ true → effort (record (holding h old) { counts = counts_read old; trace = t }) shown + to_read (turn_lane old).held ≡ effort old shown + to_read h
+held_effort : (old : Raced) (h : Option Chunk) (t : Trace) (shown : Shown) → scanning old.control ≡ true → effort (record (holding h old) { counts = counts_read old; trace = t }) shown + to_read (turn_lane old).held ≡ effort old shown + to_read h
 held_effort old h t shown back =
     let new = record (holding h old) { counts = counts_read old; trace = t } in
     let is = effort_racing new shown back in
@@ -205,17 +207,17 @@ held_effort old h t shown back =
     omega arith
 
 -- it falls by the leaf that has no longer to be read
-took_effort : (old new : Raced) (shown : Shown) → TakesLeaf old new → racing old.control ≡ true → effort new shown + to_read (turn_lane old).held ≡ effort old shown + to_read (turn_lane new).held
+took_effort : (old new : Raced) (shown : Shown) → TakesLeaf old new → scanning old.control ≡ true → effort new shown + to_read (turn_lane old).held ≡ effort old shown + to_read (turn_lane new).held
 took_effort old new shown t back = ap (λ (x : Raced). effort x shown + to_read (turn_lane old).held) t.same ∙ held_effort old (turn_lane new).held new.trace shown back
 
 unread_effort : (old new : Raced) (shown : Shown) → TakesLeaf old new → reads_leaf old ≡ false → effort new shown ≡ effort old shown
 unread_effort old new shown t r = ap (λ (x : Raced). effort x shown) (took_parts old new t ∙ ap (λ (w : Running). record old { counts = new.counts; running = w; trace = new.trace }) (t.none r))
 
 pub leaf_spends : (old new : Raced) (shown : Shown) (before after : Counts) → TakesLeaf old new → after ≡ piece_read old before → Tries before after (effort old shown) (effort new shown)
-leaf_spends old new shown before after t e = leaf_tries (racing old.control) (turn_lane old).held (turn_lane new).held before after (effort old shown) (effort new shown) (took_effort old new shown t) (unread_effort old new shown t) e
+leaf_spends old new shown before after t e = leaf_tries (scanning old.control) (turn_lane old).held (turn_lane new).held before after (effort old shown) (effort new shown) (took_effort old new shown t) (unread_effort old new shown t) e
 
 -- a take that answers lowers the effort by its read
 pub take_spends : {E : Type 0} (r : Result Taken E) (old mid new : Raced) (shown : Shown) (before after : Counts) → TakesLeaf old new → effort mid shown ≡ effort new shown → IfOk r (TakesPiece new) → after ≡ piece_read old before → IfOk r (λ taken. reads after + effort mid shown ≤ reads before + effort old shown)
 take_spends r old mid new shown before after t m k e =
     let control : new.control ≡ old.control = ap (λ (x : Raced). x.control) (took_parts old new t) in
-    taken_spends r (TakesPiece new) (racing old.control) (turn_lane old).held (turn_lane new).held before after (effort old shown) (effort mid shown) (effort new shown) (λ piece k. k.own.entries) (λ off. sym (ap racing control) ∙ off) (took_effort old new shown t) (unread_effort old new shown t) m k e
+    taken_spends r (TakesPiece new) (scanning old.control) (turn_lane old).held (turn_lane new).held before after (effort old shown) (effort mid shown) (effort new shown) (λ piece k. k.own.entries) (λ off. sym (ap scanning control) ∙ off) (took_effort old new shown t) (unread_effort old new shown t) m k e

@@ -22,7 +22,8 @@ use Rattle.rv_jscan.specs.Steps.{held_next}
 use Rattle.rv_race.specs.declared.running.Runner.{Runner}
 use Rattle.rv_race.specs.declared.running.Running.{Running}
 use Rattle.rv_race.specs.Given.{Answers, Awaits, turn_lane, turn_scan}
-use Rattle.rv_race.specs.Raced.{Keeps, RaceFits, Raced, SameRace, owed, racing}
+use Rattle.rv_race.specs.Raced.{Keeps, RaceFits, Raced, SameRace, owed}
+use Rattle.rv_final.specs.Shell.{scanning}
 use Rattle.rv_race.specs.Rulings.{GivesOn, HasNextTurn, Obeys, accepted, dropped, ended, going_on, index_at, listed, more, narrowed_by, over, passed_on, ruled, stopped, told_over}
 use Rattle.rv_race.specs.Ways.{advanced, lower, turned, turned_to}
 use Rattle.rv_final.proofs.Givings.{given_holds}
@@ -35,7 +36,7 @@ use Rattle.rv_race.proofs.Ways.{advanced_turn}
 pub stays_on : (r mid new : Raced) (shown : Shown) → Stays r shown mid → Stays mid shown new → Stays r shown new
 stays_on r mid new shown a b = (b.0, b.1 ∙ a.1)
 
-moved_stays : (r new : Raced) (shown : Shown) → new ≡ with_parts r new → racing r.control ≡ true → RaceFits r shown → RaceFits new shown → Stays r shown new
+moved_stays : (r new : Raced) (shown : Shown) → new ≡ with_parts r new → scanning r.control ≡ true → RaceFits r shown → RaceFits new shown → Stays r shown new
 moved_stays r new shown e back f g = (g, moved_rest r new shown e back)
 
 -- a piece that is not the last of its scan
@@ -54,31 +55,31 @@ listed_fits r piece keys shown a next perm f =
       unheld = narrowed_unheld keys r.running.other f.running.unheld;
     }) covers
 
-going_on_stays : (r : Raced) (shown : Shown) → racing r.control ≡ true → RaceFits r shown → more r ≡ true → Stays r shown (going_on r)
+going_on_stays : (r : Raced) (shown : Shown) → scanning r.control ≡ true → RaceFits r shown → more r ≡ true → Stays r shown (going_on r)
 going_on_stays r shown back f m = moved_stays r (going_on r) shown refl back f (moved_fits r (going_on r) shown refl back f (advanced_running r.plans (owed r shown) shown r.snap (is_some r.list) r.running f.plans f.running (first_so _ _ m)) f.covers)
 
-pub ended_stays : (r : Raced) (shown : Shown) → racing r.control ≡ true → is_some r.list ≡ true → RaceFits r shown → Stays r shown (ended r)
+pub ended_stays : (r : Raced) (shown : Shown) → scanning r.control ≡ true → is_some r.list ≡ true → RaceFits r shown → Stays r shown (ended r)
 ended_stays r shown back some f = over_as (Stays r shown) (λ b. ScanEnded b true) r (going_on_stays r shown back f) (λ m. gone_stays (ScanEnded false true) r shown back (ended_leads r back some) f)
 
-told_stays : (r : Raced) (index : ℕ) (shown : Shown) → racing r.control ≡ true → RaceFits r shown → Stays r shown (told_over (Drop index) r)
+told_stays : (r : Raced) (index : ℕ) (shown : Shown) → scanning r.control ≡ true → RaceFits r shown → Stays r shown (told_over (Drop index) r)
 told_stays r index shown back f = moved_stays r (told_over (Drop index) r) shown refl back f (moved_fits r (told_over (Drop index) r) shown refl back f f.running f.covers)
 
-pub dropped_stays : (r : Raced) (shown : Shown) → racing r.control ≡ true → RaceFits r shown → Stays r shown (dropped r)
+pub dropped_stays : (r : Raced) (shown : Shown) → scanning r.control ≡ true → RaceFits r shown → Stays r shown (dropped r)
 dropped_stays r shown back f =
     let t = told_over (Drop (index_at r (turn_scan r))) r in
     let told = told_stays r (index_at r (turn_scan r)) shown back f in
     stays_on r t (dropped r) shown told (over_as (Stays t shown) (λ b. Ruled AbandonScan b (is_some r.list)) t (going_on_stays t shown back told.0) (λ m. gone_stays (Ruled AbandonScan false (is_some r.list)) t shown back (dropped_leads t back) told.0))
 
-pub stopped_stays : (r : Raced) (shown : Shown) → racing r.control ≡ true → RaceFits r shown → Stays r shown (stopped r)
+pub stopped_stays : (r : Raced) (shown : Shown) → scanning r.control ≡ true → RaceFits r shown → Stays r shown (stopped r)
 stopped_stays r shown back f =
     let t = record r { trace = noted r.trace (Drop (index_at r (lower r.running))) } in
     let told : Stays r shown t = moved_stays r t shown refl back f (moved_fits r t shown refl back f f.running f.covers) in
     stays_on r t (stopped r) shown told (gone_stays (Ruled AbandonBackground (more r) (is_some r.list)) t shown back (stopped_leads t (more r) back) told.0)
 
-pub passed_stays : (r : Raced) (shown : Shown) → racing r.control ≡ true → (turn_lane r).held ≡ None → RaceFits r shown → Stays r shown (passed_on r)
+pub passed_stays : (r : Raced) (shown : Shown) → scanning r.control ≡ true → (turn_lane r).held ≡ None → RaceFits r shown → Stays r shown (passed_on r)
 passed_stays r shown back none f = moved_stays r (passed_on r) shown refl back f (moved_fits r (passed_on r) shown refl back f (turned_running r.plans (owed r shown) shown r.snap r.running f.running none) f.covers)
 
-pub ruled_stays : (verdict : Verdict) (r : Raced) (shown : Shown) → racing r.control ≡ true → (turn_lane r).held ≡ None → RaceFits r shown → Stays r shown (ruled verdict r)
+pub ruled_stays : (verdict : Verdict) (r : Raced) (shown : Shown) → scanning r.control ≡ true → (turn_lane r).held ≡ None → RaceFits r shown → Stays r shown (ruled verdict r)
 ruled_stays Continue r shown back none f = passed_stays r shown back none f
 ruled_stays AbandonScan r shown back none f = dropped_stays r shown back f
 ruled_stays AbandonForeground r shown back none f = passed_stays r shown back none f
@@ -141,7 +142,7 @@ gives_kin r would state after piece old new o e = given_holds r (λ g. GivesOn w
 -- WHOSE TURN IT IS
 
 abbrev pub Turns : Option Runner → Raced → Type 0
-Turns other new = racing new.control ≡ true → IfSome other (λ o. new.running.turn.scan ≡ o.scan)
+Turns other new = scanning new.control ≡ true → IfSome other (λ o. new.running.turn.scan ≡ o.scan)
 
 turned_turn : (w : Running) → IfSome w.other (λ o. (turned w).turn.scan ≡ o.scan)
 turned_turn w = by w.other
@@ -150,9 +151,9 @@ turned_turn w = by w.other
     by None = tt
     by (Some other) = refl
 
-leads_off : (r : Raced) (c : Control) → Leads r c → racing c ≡ true → true ≡ false
-leads_off r c (inl l) back = sym back ∙ ap racing l.0
-leads_off r c (inr e) back = sym back ∙ ap racing e
+leads_off : (r : Raced) (c : Control) → Leads r c → scanning c ≡ true → true ≡ false
+leads_off r c (inl l) back = sym back ∙ ap scanning l.0
+leads_off r c (inr e) back = sym back ∙ ap scanning e
 
 over_turns : (happening : Bool → Happening) (r : Raced) → Leads r (next_control BackgroundOnly r.control (happening false)) → Turns r.running.other (over (more r) (happening (more r)) r)
 over_turns happening r leads = over_as (Turns r.running.other) happening r (λ m back. on r.running.other refl) (λ m back. no_way (leads_off r (next_control BackgroundOnly r.control (happening false)) leads back))
@@ -161,7 +162,7 @@ over_turns happening r leads = over_as (Turns r.running.other) happening r (λ m
     on None e = tt
     on (Some other) e = ap (λ (t : Runner). t.scan) (advanced_turn (is_some r.list) (length r.plans) r.running other e)
 
-ruled_turns : (verdict : Verdict) (r : Raced) → racing r.control ≡ true → Turns r.running.other (ruled verdict r)
+ruled_turns : (verdict : Verdict) (r : Raced) → scanning r.control ≡ true → Turns r.running.other (ruled verdict r)
 ruled_turns Continue r back = λ after. turned_turn r.running
 ruled_turns AbandonForeground r back = λ after. turned_turn r.running
 ruled_turns AbandonScan r back =
@@ -173,12 +174,12 @@ narrowed_scan : (keys : List ℕ) (n : ℕ) (o : Option Runner) → IfSome (narr
 narrowed_scan keys n None e = tt
 narrowed_scan keys n (Some other) e = e
 
-ended_turns : (keys : List ℕ) (piece : Pieced) (old : Raced) → racing old.control ≡ true → Turns old.running.other (ended (listed keys (accepted piece true old)))
+ended_turns : (keys : List ℕ) (piece : Pieced) (old : Raced) → scanning old.control ≡ true → Turns old.running.other (ended (listed keys (accepted piece true old)))
 ended_turns keys piece old back after =
     let r = listed keys (accepted piece true old) in
     narrowed_scan keys (ended r).running.turn.scan old.running.other (over_turns (λ b. ScanEnded b true) r (ended_leads r back refl) after)
 
-obeyed_turns : (would : ℕ → Facts → Ruling) (state after : ℕ) (piece : Pieced) (old new : Raced) (next : Option IndexEntry) → racing old.control ≡ true → Obeys would state after piece next old new → Turns old.running.other new
+obeyed_turns : (would : ℕ → Facts → Ruling) (state after : ℕ) (piece : Pieced) (old new : Raced) (next : Option IndexEntry) → scanning old.control ≡ true → Obeys would state after piece next old new → Turns old.running.other new
 obeyed_turns would state after piece old new (Some cut) back o = subst (Turns old.running.other) (sym o.0) (ruled_turns _ (accepted piece false old) back)
 obeyed_turns would state after piece old new None back o = subst (Turns old.running.other) (sym o.0.ends) (ended_turns o.0.keys piece old back)
 

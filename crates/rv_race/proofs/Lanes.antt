@@ -16,7 +16,8 @@ use Rattle.rv_jscan.specs.Steps.{piece_counted}
 use Rattle.rv_race.specs.declared.running.Runner.{Runner}
 use Rattle.rv_race.specs.declared.running.Running.{Running}
 use Rattle.rv_race.specs.Given.{Awaits, next_id, turn_lane, turn_plan, turn_scan, with_lane}
-use Rattle.rv_race.specs.Raced.{IsRace, Raced, racing}
+use Rattle.rv_race.specs.Raced.{IsRace, Raced}
+use Rattle.rv_final.specs.Shell.{scanning}
 use Rattle.rv_race.specs.Rulings.{Completes, IsRuled, Obeys, accepted, completed, ended, facts_of, kept_of, listed, lowered, narrowed, recounted, told_list}
 use Rattle.rv_race.specs.Ways.{advanced, has_next, lower, lower_of}
 use Rattle.rv_race.proofs.Ways.{advanced_within}
@@ -46,7 +47,7 @@ lane_held r l e = ap (λ (x : Laned). with_lane x r) e
 
 -- The awaited piece.
 
-pub own_awaits : (r : Raced) (piece : Pieced) (b : Bool) (id : PieceId) → racing r.control ≡ true → id ≡ next_id r → (IsTrue b ↔ IsOwn (turn_plan r) id (turn_lane r) piece) → (IsTrue b ↔ Awaits r piece)
+pub own_awaits : (r : Raced) (piece : Pieced) (b : Bool) (id : PieceId) → scanning r.control ≡ true → id ≡ next_id r → (IsTrue b ↔ IsOwn (turn_plan r) id (turn_lane r) piece) → (IsTrue b ↔ Awaits r piece)
 own_awaits r piece b id back is own = (forth, hither)
   where
     forth : IsTrue b → Awaits r piece

@@ -24,9 +24,7 @@ pub opened_fits : (table snap : ℕ) (only : List (List Atom)) (scans : List Sca
 opened_fits table snap only scans cursor opening pages r shown o can two =
     let owed = qualifies_at only (shown.rows table snap) in
     let fits : RaceFits (opened table snap only scans cursor opening pages r.at r.last) shown = record {
-      ascend = can.ascend;
-      read = can.read;
-      columns = can.columns;
+      shell = record { ascend = can.ascend; read = can.read; columns = can.columns; last = record { of_table = o.last_table; at_snap = o.last_snap; drawn = o.drawn (shown.rows table snap) }; unbegun = λ h. o.unbegun; stands = refl };
       plans = can.plans;
       running = record {
         turn = begun_fits scans owed shown snap 0 can.plans (omega arith);
@@ -34,10 +32,7 @@ opened_fits table snap only scans cursor opening pages r shown o can two =
         unheld = refl;
       };
       covers = tt;
-      last = record { of_table = o.last_table; at_snap = o.last_snap; drawn = o.drawn (shown.rows table snap) };
-      unbegun = λ h. o.unbegun;
       listed = λ h. absurd (cc);
-      stands = refl;
     } in
     subst (λ (x : Raced). RaceFits x shown) (sym o.is) fits
 

@@ -1,5 +1,6 @@
 -- What a step does and keeps, and what it reads is counted.
-use Rattle.std.proofs.Common.{◌≡◌, ℕ, ◌≤◌, List, false, [], refl, ap, sym, ◌∙◌, arith, subst, Result, Ok, Err, IfOk, OnErr}
+use Rattle.std.proofs.Common.{◌≡◌, ℕ, ◌≤◌, List, length, Option, false, [], refl, ap, sym, ◌∙◌, arith, subst, Result, Ok, Err, IfOk, OnErr}
+use Rattle.rv_value.specs.declared.duplicate.NoMemory.{NoMemory}
 use Rattle.rv_judge.specs.declared.counting.Counts.{Counts}
 use Rattle.rv_judge.specs.declared.events.Control.{Control}
 use Rattle.rv_judge.specs.declared.events.Control.TheVariants.{Done}
@@ -15,16 +16,20 @@ use Rattle.rv_jscan.specs.declared.jscan.Given.{Given}
 use Rattle.rv_jscan.specs.declared.jscan.ScanCounts.{ScanCounts}
 use Rattle.rv_jscan.specs.Pieces.{Pieced}
 use Rattle.rv_final.specs.Rest.{Steps}
+use Rattle.rv_final.specs.Shell.{IsFinal, Shelled}
+use Rattle.rv_final.specs.Stage.{keys_left}
 use Rattle.rv_final.specs.Work.{Falls, Tries}
 use Rattle.rv_race.specs.Effort.{effort, keys_work}
 use Rattle.rv_race.specs.Given.{Answers, TakesLeaf, counts_read, holding, turn_lane}
 use Rattle.rv_race.specs.Opened.{Does, DoesAs, DoesStep, EndsIn, MayRead, OnlyTakes, Steady, StepsAs}
-use Rattle.rv_race.specs.Raced.{RaceFits, Raced, racing, rest}
+use Rattle.rv_race.specs.Raced.{RaceFits, Raced, rest, shell_of, with_shell}
+use Rattle.rv_final.specs.Shell.{scanning}
 use Rattle.rv_race.specs.Rulings.{GivesOn}
 use Rattle.rv_final.proofs.Endings.{counts_raised, ends_by}
-use Rattle.rv_race.proofs.Finals.{done_rest, stage_of, stage_steady}
+use Rattle.rv_final.proofs.Shells.{final_over}
+use Rattle.rv_race.proofs.Finals.{Finishes, done_rest, stage_of, stage_steady}
 use Rattle.rv_race.proofs.Gives.{gives_keep, gives_kin}
-use Rattle.rv_race.proofs.Takes.{none_counted, none_leaves}
+use Rattle.rv_race.proofs.Takes.{none_counted}
 use Rattle.rv_race.proofs.Tellings.{gives_tell}
 
 -- A step that takes a piece and gives it.
@@ -93,18 +98,17 @@ only_took old mid t = record {
   fewer = subst (λ (n : ℕ). n ≤ keys_work old) (sym (ap keys_work t.same)) (omega arith);
 }
 
--- no piece is awaited
-pub only_itself : (r : Raced) → racing r.control ≡ false → OnlyTakes r r
-only_itself r off = only_took r r (none_leaves r off)
-
 -- keys may have been passed
-pub only_at_keys : (old new : Raced) (c d : Counts) → racing old.control ≡ false → new ≡ record old { at = new.at } → Tries c d (keys_work old) (keys_work new) → OnlyTakes old new
-only_at_keys old new c d off e t = record {
-  same = subst (λ (x : Raced). x ≡ record (holding (turn_lane x).held old) { counts = counts_read old; at = x.at; trace = x.trace }) (sym e) (ap (λ (cs : List ScanCounts). record old { counts = cs; at = new.at }) (sym (none_counted old off)));
-  named = ap (λ (x : Raced). x.trace.strategy) e;
-  events = ap (λ (x : Raced). x.trace.events) e;
-  fewer = t.less;
-}
+pub only_passed : (r : Result (Step Record) NoMemory) (shown : Shown) (c d : Counts) (old new : Raced) → IsFinal old.control → new ≡ with_shell (shell_of new) old → Finishes shown c d r old new → OnErr r (OnlyTakes old new)
+only_passed (Ok s) shown c d old new at same f = tt
+only_passed (Err x) shown c d old new at same f =
+    let e : new ≡ record old { at = new.at } = same ∙ ap (λ (s : Shelled). with_shell s old) f.still.same in
+    record {
+      same = subst (λ (x : Raced). x ≡ record (holding (turn_lane x).held old) { counts = counts_read old; at = x.at; trace = x.trace }) (sym e) (ap (λ (cs : List ScanCounts). record old { counts = cs; at = new.at }) (sym (none_counted old (final_over old.control at))));
+      named = ap (λ (x : Raced). x.trace.strategy) e;
+      events = ap (λ (x : Raced). x.trace.events) e;
+      fewer = subst (λ (list : Option (List ℕ)). length (keys_left list new.at) ≤ keys_work old) (sym (ap (λ (x : Raced). x.list) same)) f.still.fewer;
+    }
 
 -- what was read is counted
 pub only_counted : {X E : Type 0} (x : Result X E) (old mid new : Raced) (c d : Counts) → new ≡ record mid { trace = counted mid.trace c d } → OnErr x (OnlyTakes old mid) → OnErr x (OnlyTakes old new)

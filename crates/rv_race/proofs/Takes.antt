@@ -13,7 +13,8 @@ use Rattle.rv_jscan.specs.Lanes.{IsOwn, LaneFits, Laned, leaf_once}
 use Rattle.rv_jscan.specs.Pieces.{Pieced}
 use Rattle.rv_race.specs.Given.{Awaits, TakesLeaf, awaited, counts_read, holding, next_id, one_leaf, piece_read, turn_lane, turn_plan, turn_scan, with_lane}
 use Rattle.rv_race.specs.Opened.{Steady}
-use Rattle.rv_race.specs.Raced.{RaceFits, Raced, SameRace, racing, rest}
+use Rattle.rv_race.specs.Raced.{RaceFits, Raced, SameRace, rest}
+use Rattle.rv_final.specs.Shell.{scanning}
 use Rattle.rv_race.specs.Runs.{Tells}
 use Rattle.rv_final.proofs.Takings.{held_if, none_unread, once_read}
 use Rattle.rv_race.proofs.Switches.{aside_fits, moved_fits}
@@ -34,10 +35,10 @@ took_same old mid new m n = n ∙ ap (λ (x : Raced). with_lane (record (turn_la
 pub took_trace : (old mid new : Raced) → mid ≡ read_mid old → takes mid new → new.trace ≡ old.trace
 took_trace old mid new m n = ap (λ (x : Raced). x.trace) (took_same old mid new m n)
 
-pub took_leaves : (old mid new : Raced) → racing old.control ≡ true → mid ≡ read_mid old → takes mid new → (is_some (turn_lane mid).held ≡ true → new ≡ mid) → TakesLeaf old new
+pub took_leaves : (old mid new : Raced) → scanning old.control ≡ true → mid ≡ read_mid old → takes mid new → (is_some (turn_lane mid).held ≡ true → new ≡ mid) → TakesLeaf old new
 took_leaves old mid new back m n h = record {
   same = took_same old mid new m n ∙ ap (λ (t : Trace). record (holding (turn_lane new).held old) { counts = counts_read old; trace = t }) (sym (took_trace old mid new m n));
-  none = λ unread. ap (λ (x : Raced). x.running) (h (ap (λ (x : Raced). is_some (turn_lane x).held) m ∙ held_if (racing old.control) (turn_lane old).held back unread) ∙ m);
+  none = λ unread. ap (λ (x : Raced). x.running) (h (ap (λ (x : Raced). is_some (turn_lane x).held) m ∙ held_if (scanning old.control) (turn_lane old).held back unread) ∙ m);
   named = ap (λ (t : Trace). t.strategy) (took_trace old mid new m n);
   events = ap (λ (t : Trace). t.events) (took_trace old mid new m n);
 }
@@ -48,7 +49,7 @@ took_can old mid shown m f = subst (λ (x : Raced). CanMake (turn_plan x) shown 
 pub took_lane : (old mid : Raced) (shown : Shown) → mid ≡ read_mid old → RaceFits old shown → LaneFits (turn_plan mid) shown mid.snap (turn_lane mid)
 took_lane old mid shown m f = subst (λ (x : Raced). LaneFits (turn_plan x) shown x.snap (turn_lane x)) (sym m) f.running.turn.lane
 
-pub took_fits : (old mid new : Raced) (shown : Shown) → racing old.control ≡ true → mid ≡ read_mid old → takes mid new → LaneFits (turn_plan mid) shown mid.snap (turn_lane new) → RaceFits old shown → RaceFits new shown
+pub took_fits : (old mid new : Raced) (shown : Shown) → scanning old.control ≡ true → mid ≡ read_mid old → takes mid new → LaneFits (turn_plan mid) shown mid.snap (turn_lane new) → RaceFits old shown → RaceFits new shown
 took_fits old mid new shown back m n l f =
     let held = (turn_lane new).held in
     let same = took_same old mid new m n in
@@ -61,25 +62,25 @@ took_fits old mid new shown back m n l f =
     }) f.covers in
     subst (λ (x : Raced). RaceFits x shown) (sym same) fits
 
-pub took_taken : {E : Type 0} (r : Result Pieced E) (old mid new : Raced) (id : PieceId) → racing old.control ≡ true → mid ≡ read_mid old → id ≡ next_id mid → takes mid new → IfOk r (IsOwn (turn_plan mid) id (turn_lane new)) → IfOk r (Awaits new)
+pub took_taken : {E : Type 0} (r : Result Pieced E) (old mid new : Raced) (id : PieceId) → scanning old.control ≡ true → mid ≡ read_mid old → id ≡ next_id mid → takes mid new → IfOk r (IsOwn (turn_plan mid) id (turn_lane new)) → IfOk r (Awaits new)
 took_taken (Ok p) old mid new id back m is n own =
     let plan : turn_plan mid ≡ turn_plan new = sym (ap turn_plan n) in
     let name : next_id mid ≡ next_id new = sym (ap next_id n) in
     record {
-      under_way = ap (λ (x : Raced). racing x.control) (took_same old mid new m n) ∙ back;
+      under_way = ap (λ (x : Raced). scanning x.control) (took_same old mid new m n) ∙ back;
       own = record { named = own.named ∙ is ∙ name; part = own.part ∙ ap (λ (p : ScanPlan). p.part) plan; entries = own.entries };
     }
 took_taken (Err e) old mid new id back m is n own = tt
 
-pub took_reads : (old mid : Raced) (c d : Counts) → racing old.control ≡ true → mid ≡ read_mid old → d ≡ leaf_once (turn_lane mid) c → d ≡ piece_read old c
-took_reads old mid c d back m r = r ∙ ap (λ (x : Raced). leaf_once (turn_lane x) c) m ∙ once_read (racing old.control) (turn_lane old).held c back
+pub took_reads : (old mid : Raced) (c d : Counts) → scanning old.control ≡ true → mid ≡ read_mid old → d ≡ leaf_once (turn_lane mid) c → d ≡ piece_read old c
+took_reads old mid c d back m r = r ∙ ap (λ (x : Raced). leaf_once (turn_lane x) c) m ∙ once_read (scanning old.control) (turn_lane old).held c back
 
 -- No scan is under way.
 
-pub none_counted : (r : Raced) → racing r.control ≡ false → counts_read r ≡ r.counts
-none_counted r off = ap (λ (b : Bool). if b then one_leaf r else r.counts) (none_unread (racing r.control) (turn_lane r).held off)
+pub none_counted : (r : Raced) → scanning r.control ≡ false → counts_read r ≡ r.counts
+none_counted r off = ap (λ (b : Bool). if b then one_leaf r else r.counts) (none_unread (scanning r.control) (turn_lane r).held off)
 
-pub none_leaves : (r : Raced) → racing r.control ≡ false → TakesLeaf r r
+pub none_leaves : (r : Raced) → scanning r.control ≡ false → TakesLeaf r r
 none_leaves r off = record {
   same = ap (λ (cs : List ScanCounts). record r { counts = cs }) (sym (none_counted r off));
   none = λ h. refl;
@@ -117,7 +118,7 @@ took_steady old new shown t e f = record {
 -- What was read is counted.
 
 pub counted_fits : (mid new : Raced) (t : Trace) (shown : Shown) → new ≡ record mid { trace = t } → RaceFits mid shown → RaceFits new shown
-counted_fits mid new t shown e f = subst (λ (x : Raced). RaceFits x shown) (sym e) (aside_fits mid mid.control mid.at mid.last t shown f.last f.unbegun f.listed f.stands f)
+counted_fits mid new t shown e f = subst (λ (x : Raced). RaceFits x shown) (sym e) (aside_fits mid mid.control mid.at mid.last t shown f.shell.last f.shell.unbegun f.listed f.shell.stands f)
 
 pub counted_tells : (mid new : Raced) (c d : Counts) → new ≡ record mid { trace = counted mid.trace c d } → Tells mid → Tells new
 counted_tells mid new c d e t = subst Tells (sym e) (aside_tells mid (record mid { trace = counted mid.trace c d }) refl refl refl refl refl refl refl refl t)

@@ -36,16 +36,19 @@ use Rattle.rv_jscan.specs.Steps.{held_next}
 use Rattle.rv_race.specs.declared.running.Runner.{Runner}
 use Rattle.rv_race.specs.declared.running.Running.{Running}
 use Rattle.rv_race.specs.Given.{Answers, TakesPiece, turn_lane, turn_scan}
-use Rattle.rv_race.specs.Raced.{Raced, racing}
+use Rattle.rv_race.specs.Raced.{Raced}
+use Rattle.rv_final.specs.Shell.{scanning}
 use Rattle.rv_race.specs.Rulings.{GivesOn, Obeys, accepted, dropped, ended, going_on, gone, index_at, listed, more, narrowed_by, passed_on, ruled, stopped, told_over}
 use Rattle.rv_jscan.specs.Planned.{indexes_of}
 use Rattle.rv_judge.specs.Drops.{was_dropped}
 use Rattle.rv_judge.proofs.Indexes.{front_once}
 use Rattle.rv_race.specs.Runs.{Ended, IsOfUndropped, Placed, Tells, TellsBy, TellsOver, TellsRacing, ended_indexes, events_left, is_keyed, keyed, later, left_by, left_of, list_length, listed_by, outcome, told_ends}
 use Rattle.rv_race.specs.Ways.{advanced, followed, followed_by, has_next, joined, lower, lower_of, turned, turned_to}
-use Rattle.rv_final.proofs.Endings.{IsFinal, final_done}
+use Rattle.rv_final.specs.Shell.{IsFinal}
+use Rattle.rv_final.proofs.Endings.{final_done}
 use Rattle.rv_final.proofs.Givings.{given_holds}
-use Rattle.rv_race.proofs.Switches.{is_racing, over_as}
+use Rattle.rv_final.proofs.Shells.{only_scanning}
+use Rattle.rv_race.proofs.Switches.{over_as}
 use Rattle.rv_race.proofs.Traces.{OneTurn, chain_went, drop_last, final_of, final_turn, has_scans, last_off, list_last, listed_more, one_more, once_apart, once_swap, so_far, stop_last, told_length, told_more, turns_of, undropped}
 use Rattle.rv_race.proofs.Ways.{advanced_as, followed_as}
 
@@ -381,16 +384,16 @@ closed_off r new keys h n c to t k leads final left comes turn at =
     ∙ sym (append_assoc (so_far t.ends) (Scan i ∷ []) (outcome i keys ∷ At c ∷ [])) in
     finished r (gone h new) t i n (outcome i keys) h c to k.plans leads left items (turn_once r t) (index_known r.plans r.running.turn.scan t.placed.turn_planned) comes turn at
 
-next_final : (h : Happening) (r : Raced) (c : Control) → racing r.control ≡ true → next_control BackgroundOnly BackgroundAlone h ≡ c → next_control BackgroundOnly r.control h ≡ c
-next_final h r c back e = ap (λ (x : Control). next_control BackgroundOnly x h) (is_racing r.control back) ∙ e
+next_final : (h : Happening) (r : Raced) (c : Control) → scanning r.control ≡ true → next_control BackgroundOnly BackgroundAlone h ≡ c → next_control BackgroundOnly r.control h ≡ c
+next_final h r c back e = ap (λ (x : Control). next_control BackgroundOnly x h) (only_scanning r.control back) ∙ e
 
 -- THE TURNS OF A RACE
 
-racing_tells : (new : Raced) → racing new.control ≡ true → new.trace.strategy ≡ BackgroundOnly → TellsRacing new → Tells new
-racing_tells new back named t = record { named = named; tells = subst (λ (c : Control). TellsBy c new) (sym (is_racing new.control back)) t }
+racing_tells : (new : Raced) → scanning new.control ≡ true → new.trace.strategy ≡ BackgroundOnly → TellsRacing new → Tells new
+racing_tells new back named t = record { named = named; tells = subst (λ (c : Control). TellsBy c new) (sym (only_scanning new.control back)) t }
 
-pub tells_racing : (r : Raced) → racing r.control ≡ true → Tells r → TellsRacing r
-tells_racing r back t = subst (λ (c : Control). TellsBy c r) (is_racing r.control back) t.tells
+pub tells_racing : (r : Raced) → scanning r.control ≡ true → Tells r → TellsRacing r
+tells_racing r back t = subst (λ (c : Control). TellsBy c r) (only_scanning r.control back) t.tells
 
 final_tells : (new : Raced) (c : Control) → new.control ≡ c → IsFinal c → new.trace.strategy ≡ BackgroundOnly → TellsOver new → Tells new
 final_tells new c e (inl f) named t = record { named = named; tells = tells_over new (inl (e ∙ f)) t }
@@ -413,7 +416,7 @@ dropped_closes piece old t = record {
     same None = refl
     same (Some other) = refl
 
-dropped_tells : (piece : Pieced) (old : Raced) → racing old.control ≡ true → Tells old → Tells (dropped (accepted piece false old))
+dropped_tells : (piece : Pieced) (old : Raced) → scanning old.control ≡ true → Tells old → Tells (dropped (accepted piece false old))
 dropped_tells piece old back t =
     let v = tells_racing old back t in
     let r = told_over (Drop (index_at old (turn_scan old))) (accepted piece false old) in
@@ -452,7 +455,7 @@ listed_closes piece keys old t = record {
     below n None l = tt
     below n (Some other) l = l
 
-ended_tells : (piece : Pieced) (keys : List ℕ) (old : Raced) → racing old.control ≡ true → Tells old → Tells (ended (listed keys (accepted piece true old)))
+ended_tells : (piece : Pieced) (keys : List ℕ) (old : Raced) → scanning old.control ≡ true → Tells old → Tells (ended (listed keys (accepted piece true old)))
 ended_tells piece keys old back t =
     let v = tells_racing old back t in
     let r = listed keys (accepted piece true old) in
@@ -466,7 +469,7 @@ ended_tells piece keys old back t =
     some_key keys h = grind (arith, nat_tests)
 
 -- a verdict drops the background
-stopped_tells : (piece : Pieced) (old : Raced) → racing old.control ≡ true → Tells old → Tells (stopped (accepted piece false old))
+stopped_tells : (piece : Pieced) (old : Raced) → scanning old.control ≡ true → Tells old → Tells (stopped (accepted piece false old))
 stopped_tells piece old back t =
     let v = tells_racing old back t in
     let r = accepted piece false old in
@@ -505,13 +508,13 @@ stopped_tells piece old back t =
     stood : (b : Bool) → (idle (final_of b) [] (listed_by None (tells_racing old back t).ends)).control ≡ final_of b
     stood b = refl
 
-ruled_tells : (verdict : Verdict) (piece : Pieced) (old : Raced) → racing old.control ≡ true → Tells old → Tells (ruled verdict (accepted piece false old))
+ruled_tells : (verdict : Verdict) (piece : Pieced) (old : Raced) → scanning old.control ≡ true → Tells old → Tells (ruled verdict (accepted piece false old))
 ruled_tells Continue piece old back t = racing_tells (passed_on (accepted piece false old)) back t.named (passed_tells piece false old (tells_racing old back t))
 ruled_tells AbandonForeground piece old back t = racing_tells (passed_on (accepted piece false old)) back t.named (passed_tells piece false old (tells_racing old back t))
 ruled_tells AbandonScan piece old back t = dropped_tells piece old back t
 ruled_tells AbandonBackground piece old back t = stopped_tells piece old back t
 
-obeyed_tells : (would : ℕ → Facts → Ruling) (state after : ℕ) (piece : Pieced) (old new : Raced) (next : Option IndexEntry) → racing old.control ≡ true → Obeys would state after piece next old new → Tells old → Tells new
+obeyed_tells : (would : ℕ → Facts → Ruling) (state after : ℕ) (piece : Pieced) (old new : Raced) (next : Option IndexEntry) → scanning old.control ≡ true → Obeys would state after piece next old new → Tells old → Tells new
 obeyed_tells would state after piece old new (Some cut) back o t = subst Tells (sym o.0) (ruled_tells _ piece old back t)
 obeyed_tells would state after piece old new None back o t = subst Tells (sym o.0.ends) (ended_tells piece o.0.keys old back t)
 
@@ -640,7 +643,7 @@ allowed r t = subst (λ (st : Strategy). Allowed (record r.trace { strategy = st
 -- A piece that is handed out is of a scan that was not dropped.
 pub undropped_piece : {E : Type 0} (r : Result Taken E) (mid new : Raced) (c d : Counts) → IfOk r (TakesPiece mid) → new ≡ record mid { trace = counted mid.trace c d } → Tells new → IfOk r (IsOfUndropped new)
 undropped_piece (Ok (Piece piece)) mid new c d a e t =
-    let back : racing new.control ≡ true = ap (λ (x : Raced). racing x.control) e ∙ a.under_way in
+    let back : scanning new.control ≡ true = ap (λ (x : Raced). scanning x.control) e ∙ a.under_way in
     let b = tells_racing new back t in
     let first = left_first new.plans new.running in
     let i = index_at new (turn_scan new) in

@@ -14,7 +14,8 @@ use Rattle.rv_jscan.specs.Joint.{counts_at, plan_at}
 use Rattle.rv_jscan.specs.Lanes.{IsOwn, Laned}
 use Rattle.rv_jscan.specs.Pieces.{Pieced}
 use Rattle.rv_jscan.specs.Steps.{leaf_counted}
-use Rattle.rv_race.specs.Raced.{Raced, racing}
+use Rattle.rv_race.specs.Raced.{Raced}
+use Rattle.rv_final.specs.Shell.{scanning}
 
 -- the scan whose turn it is
 abbrev pub turn_scan : Raced → ℕ
@@ -32,11 +33,11 @@ next_id r = record { cursor = r.cursor; opening = r.opening; number = r.number }
 
 -- the id of the awaited piece, none where no scan is under way
 abbrev pub awaited : Raced → Option PieceId
-awaited r = if racing r.control then Some (next_id r) else None
+awaited r = if scanning r.control then Some (next_id r) else None
 
 -- the piece is the awaited one, once taken: the leaf that the scan whose turn it is holds
 pub record Awaits (r : Raced) (piece : Pieced) : Type 0 where
-  pub under_way : racing r.control ≡ true
+  pub under_way : scanning r.control ≡ true
   pub own : IsOwn (turn_plan r) (next_id r) (turn_lane r) piece
 
 -- what a give answers, and that a stale piece changes nothing
@@ -47,11 +48,11 @@ Answers old piece (Stale asked now) new = ¬ Awaits old piece × (asked ≡ piec
 -- what a take answers
 abbrev pub TakesPiece : Raced → Taken → Type 0
 TakesPiece r (Piece piece) = Awaits r piece
-TakesPiece r Nothing = racing r.control ≡ false
+TakesPiece r Nothing = scanning r.control ≡ false
 
 -- a take has to read a leaf
 abbrev pub reads_leaf : Raced → Bool
-reads_leaf r = racing r.control && not (is_some (turn_lane r).held)
+reads_leaf r = scanning r.control && not (is_some (turn_lane r).held)
 
 -- the counts with one more leaf of the scan whose turn it is
 abbrev pub one_leaf : Raced → List ScanCounts

@@ -5,14 +5,12 @@ use Rattle.rv_value.specs.declared.record.Record.{Record}
 use Rattle.rv_judge.specs.declared.counting.Counts.{Counts}
 use Rattle.rv_judge.specs.declared.events.Control.{Control}
 use Rattle.rv_judge.specs.declared.events.Control.TheVariants.{Building, ForegroundAlone, BackgroundAlone, FinalList, FinalTable, Done}
-use Rattle.rv_judge.specs.declared.events.Event.TheVariants.{At, Scan}
 use Rattle.rv_judge.specs.declared.events.Happening.TheVariants.{FinalEnded}
 use Rattle.rv_judge.specs.declared.events.Strategy.TheVariants.{BackgroundOnly}
-use Rattle.rv_judge.specs.declared.events.Trace.{Trace}
 use Rattle.rv_judge.specs.declared.judging.Facts.{Facts}
 use Rattle.rv_judge.specs.Counting.{page_read, record_read}
 use Rattle.rv_judge.specs.Runs.{EachOnce}
-use Rattle.rv_judge.specs.Tracing.{SameCounts, counted, new_trace, noted}
+use Rattle.rv_judge.specs.Tracing.{SameCounts, counted}
 use Rattle.rv_judge.specs.Verdicts.{Ruling}
 use Rattle.rv_restrict.specs.declared.atom.Atom.{Atom}
 use Rattle.rv_reader.specs.Shown.{Shown, CanRead}
@@ -27,6 +25,7 @@ use Rattle.rv_jscan.specs.Joint.{no_counts, plan_at}
 use Rattle.rv_jscan.specs.Pieces.{Pieced}
 use Rattle.rv_jscan.specs.Steps.{eight}
 use Rattle.rv_final.specs.Rest.{Steps, qualifies_at}
+use Rattle.rv_final.specs.Shell.{EndsAt, first_trace}
 use Rattle.rv_final.specs.Stage.{FetchesKey, Unbegun, first_key}
 use Rattle.rv_final.specs.Work.{Falls}
 use Rattle.rv_race.specs.Effort.{keys_work}
@@ -45,10 +44,6 @@ pub record CanRace (table snap : ℕ) (only : List (List Atom)) (scans : List Sc
   pub plans : PlansFit scans (qualifies_at only (shown.rows table snap)) shown snap
   pub once : EachOnce (indexes_of scans)
 
--- a race trace begins with the control and the lower of the two scans
-abbrev pub first_trace : List ScanPlan → Trace
-first_trace scans = noted (noted (new_trace BackgroundOnly) (At BackgroundAlone)) (Scan (plan_at scans 0).index)
-
 -- before the first piece, over a table of so many pages: the first two scans are under way
 abbrev pub opened : ℕ → ℕ → List (List Atom) → List ScanPlan → ℕ → ℕ → ℕ → ℕ → Place → Raced
 opened table snap only scans cursor opening pages at last = record {
@@ -66,7 +61,7 @@ opened table snap only scans cursor opening pages at last = record {
   guaranteed = pages;
   at = at;
   last = last;
-  trace = first_trace scans;
+  trace = first_trace BackgroundOnly (plan_at scans 0).index;
 }
 
 -- A RACE THAT WAS OPENED: it has read nothing, also not of its final stage
@@ -92,9 +87,7 @@ DoesStep old new shown scanned = (need : List ℕ) → Steps need [] scanned (re
 
 -- an end leads to the last control
 abbrev pub EndsIn : Raced → Step Record → Type 0
-EndsIn r (Row record_found) = Unit {0}
-EndsIn r Working = Unit {0}
-EndsIn r End = r.control ≡ Done
+EndsIn r scanned = EndsAt r.control scanned
 
 -- a source at its end leads to the last control
 abbrev pub ended_by : Step Record → Raced → Raced

@@ -1,23 +1,21 @@
 -- A race as contracts see it, and the records that it still owes.
-use Rattle.std.specs.Prelude.{◌≡◌, ℕ, ◌<◌, ◌≤◌, Bool, true, false, ◌||◌, List, length, Option, None, IsSome, IfSome}
+use Rattle.std.specs.Prelude.{◌≡◌, ℕ, ◌<◌, ◌≤◌, Bool, true, ◌||◌, List, length, Option, None, IsSome, IfSome}
 use Rattle.rv_value.specs.declared.record.Record.{Record}
-use Rattle.rv_rows.specs.Rows.{Ascend}
 use Rattle.rv_keylist.specs.Keys.{has_key}
 use Rattle.rv_keylist.specs.Listed.{Listed}
 use Rattle.rv_judge.specs.declared.events.Control.{Control}
-use Rattle.rv_judge.specs.declared.events.Control.TheVariants.{Building, ForegroundAlone, BackgroundAlone, FinalList, FinalTable, Done}
+use Rattle.rv_judge.specs.declared.events.Control.TheVariants.{FinalList}
 use Rattle.rv_judge.specs.declared.events.Trace.{Trace}
 use Rattle.rv_restrict.specs.declared.atom.Atom.{Atom}
-use Rattle.rv_reader.specs.Shown.{Shown, CanRead}
-use Rattle.rv_scan.specs.Due.{HaveColumns}
+use Rattle.rv_reader.specs.Shown.{Shown}
 use Rattle.rv_scan.specs.Places.{Place}
 use Rattle.rv_jscan.specs.declared.jscan.ScanPlan.{ScanPlan}
 use Rattle.rv_jscan.specs.declared.jscan.ScanCounts.{ScanCounts}
 use Rattle.rv_jscan.specs.Entries.{Apart, has_entry}
 use Rattle.rv_jscan.specs.Joint.{CanMake, meets, passing, plan_at}
 use Rattle.rv_jscan.specs.Lanes.{LaneFits}
-use Rattle.rv_final.specs.Rest.{qualifies_at, rest_by}
-use Rattle.rv_final.specs.Stage.{LastFits, Unbegun, list_left, table_left}
+use Rattle.rv_final.specs.Rest.{qualifies_at}
+use Rattle.rv_final.specs.Shell.{ShellFits, Shelled, rest as rest_left}
 use Rattle.rv_final.specs.LaneWork.{ahead}
 use Rattle.rv_race.specs.declared.running.Runner.{Runner}
 use Rattle.rv_race.specs.declared.running.Running.{Running}
@@ -49,43 +47,19 @@ pub record IsRace (plans : List ScanPlan) (running : Running) (list : Option Lis
   pub next_planned : running.next ≤ length plans
   pub list_finished : IfSome list (λ l. l.finished ≡ true)
 
--- whether scans are under way
-abbrev pub racing : Control → Bool
-racing Building = false
-racing ForegroundAlone = false
-racing BackgroundAlone = true
-racing FinalList = false
-racing FinalTable = false
-racing Done = false
+-- what stands around its scans
+abbrev pub shell_of : Raced → Shelled
+shell_of r = record { control = r.control; at = r.at; last = r.last; trace = r.trace }
 
--- the controls of a race, which has no foreground
-abbrev pub of_race : Control → Bool
-of_race Building = false
-of_race ForegroundAlone = false
-of_race BackgroundAlone = true
-of_race FinalList = true
-of_race FinalTable = true
-of_race Done = true
+abbrev pub with_shell : Shelled → Raced → Raced
+with_shell s r = record r { control = s.control; at = s.at; last = s.last; trace = s.trace }
 
 abbrev pub rows_of : Raced → Shown → List Record
 rows_of r shown = shown.rows r.table r.snap
 
--- whether a row is still to be given, if it qualifies: each one while scans are under way, then those of the keys left
--- of the complete list, or on the pages left of the table
-abbrev pub left_by : Control → Option (List ℕ) → ℕ → Place → List Record → ℕ → Bool
-left_by Building list at last rows n = false
-left_by ForegroundAlone list at last rows n = false
-left_by BackgroundAlone list at last rows n = true
-left_by FinalList list at last rows n = list_left list None at n
-left_by FinalTable list at last rows n = table_left last rows None n
-left_by Done list at last rows n = false
-
-abbrev pub left_at : Raced → Shown → ℕ → Bool
-left_at r shown n = left_by r.control r.list r.at r.last (rows_of r shown) n
-
 -- THE REST: the records of the snapshot that qualify and are still to be given, in ascending row number
 abbrev pub rest : Raced → Shown → List Record
-rest r shown = rest_by (left_at r shown) r.only (rows_of r shown)
+rest r shown = rest_left r.only (rows_of r shown) r.list (shell_of r)
 
 -- a row of this number qualifies
 abbrev pub owed : Raced → Shown → ℕ → Bool
@@ -119,16 +93,11 @@ Covers owed keys = (n : ℕ) → owed n ≡ true → has_key n keys ≡ true
 
 -- WHAT IT HOLDS WAS DRAWN FROM WHAT A READER SHOWS, and the reader can be read as it will be.
 pub record RaceFits (r : Raced) (shown : Shown) : Type 0 where
-  pub ascend : Ascend (rows_of r shown)
-  pub read : CanRead shown r.table r.snap
-  pub columns : HaveColumns r.only (rows_of r shown)
+  pub shell : ShellFits r.table r.snap r.only shown (shell_of r)
   pub plans : PlansFit r.plans (owed r shown) shown r.snap
   pub running : RunningFits r.plans (owed r shown) shown r.snap r.running
   pub covers : IfSome r.list (Covers (owed r shown))
-  pub last : LastFits r.table r.snap r.last shown
-  pub unbegun : racing r.control ≡ true → Unbegun r.at r.last
   pub listed : r.control ≡ FinalList → IsSome r.list
-  pub stands : of_race r.control ≡ true
 
 -- WHAT EVERY CALL KEEPS: what is asked, the planned scans and the names of the pieces
 pub record SameRace (old new : Raced) : Type 0 where

@@ -1,5 +1,5 @@
 -- What becomes of a race where a piece is accepted, where a scan ends and where a judge rules.
-use Rattle.std.specs.Prelude.{◌≡◌, ℕ, ◌-◌, Bool, true, false, not, ◌&&◌, List, length, take, slice_set, min, Option, Some, None, is_some, IfSome, IsPermutation, if◌then◌else◌}
+use Rattle.std.specs.Prelude.{◌≡◌, ℕ, Bool, true, false, not, ◌&&◌, List, length, slice_set, min, Option, Some, None, is_some, IfSome, IsPermutation, if◌then◌else◌}
 use Rattle.std.specs.List.Sorted.{IsStrictlyIncreasing}
 use Rattle.rv_value.specs.declared.record.IndexEntry.{IndexEntry}
 use Rattle.rv_judge.specs.declared.events.Event.{Event}
@@ -7,7 +7,6 @@ use Rattle.rv_judge.specs.declared.events.Event.TheVariants.{At, Scan, List as L
 use Rattle.rv_judge.specs.declared.events.Happening.{Happening}
 use Rattle.rv_judge.specs.declared.events.Happening.TheVariants.{ScanEnded, Ruled}
 use Rattle.rv_judge.specs.declared.events.Strategy.TheVariants.{BackgroundOnly}
-use Rattle.rv_judge.specs.declared.events.Trace.{Trace}
 use Rattle.rv_judge.specs.declared.judging.Facts.{Facts}
 use Rattle.rv_judge.specs.declared.judging.Verdict.{Verdict}
 use Rattle.rv_judge.specs.declared.judging.Verdict.TheVariants.{Continue, AbandonScan, AbandonForeground, AbandonBackground}
@@ -24,9 +23,10 @@ use Rattle.rv_jscan.specs.Joint.{counts_at, is_empty_list, plan_at}
 use Rattle.rv_jscan.specs.Lanes.{narrowed_lane, no_lane, passed}
 use Rattle.rv_jscan.specs.Pieces.{Pieced, kept_by, may}
 use Rattle.rv_jscan.specs.Steps.{held_next, piece_counted}
+use Rattle.rv_final.specs.Shell.{scanning, unnoted}
 use Rattle.rv_race.specs.declared.running.Runner.{Runner}
 use Rattle.rv_race.specs.Given.{turn_lane, turn_scan, with_lane}
-use Rattle.rv_race.specs.Raced.{Raced, racing}
+use Rattle.rv_race.specs.Raced.{Raced}
 use Rattle.rv_race.specs.Ways.{advanced, has_next, lower, turned}
 
 -- A PIECE IS ACCEPTED: its rows are added that the complete list, if any, may have, it is counted, and the scan goes
@@ -79,10 +79,6 @@ facts_of r = facts_at r.control (account_of r (turn_scan r)) (turn_scan r) (leas
 
 abbrev pub index_at : Raced → ℕ → ℕ
 index_at r scan = (plan_at r.plans scan).index
-
--- the last event is taken away
-abbrev pub unnoted : Trace → Trace
-unnoted t = record t { events = record { items = take (length t.events.items - 1) t.events.items } }
 
 -- the scan whose turn it was is over: it stands in place of the scan that stood last, with what became of it
 abbrev pub told_over : Event → Raced → Raced
@@ -200,5 +196,5 @@ GivesOn would state after piece (Stale asked now) old new = (new ≡ old) × (af
 -- WHERE TWO SCANS ARE UNDER WAY, THE ONE THAT HAD NOT THE TURN HAS THE NEXT ONE, while scans are under way
 abbrev pub HasNextTurn : Given → Raced → Raced → Type 0
 HasNextTurn Accepted old new =
-    racing new.control ≡ true → IfSome old.running.other (λ other. new.running.turn.scan ≡ other.scan)
+    scanning new.control ≡ true → IfSome old.running.other (λ other. new.running.turn.scan ≡ other.scan)
 HasNextTurn (Stale asked now) old new = new ≡ old

@@ -1,32 +1,29 @@
 ghost use Rattle.std.specs.Prelude.{◌≡◌, ◌<◌, ◌≤◌, ℕ, List, Some, None, true, not, is_some, length, slice_set, IfOk, IfSome, IsPermutation, IsSome, IsTrue, OnErr, OnOk, ◌↔◌};
 ghost use Rattle.std.specs.List.Sorted.{IsStrictlyIncreasing};
 ghost use Rattle.rv_judge.specs.Account.{guarantee_with};
-ghost use Rattle.rv_judge.specs.Counting.{one_more, page_read, record_read};
+ghost use Rattle.rv_judge.specs.Counting.{one_more};
 ghost use Rattle.rv_judge.specs.Runs.{Allowed};
 ghost use Rattle.rv_judge.specs.Tracing.{counted, noted};
 ghost use Rattle.rv_judge.specs.declared.events.Event.{Event as TheEvent};
-ghost use Rattle.rv_scan.specs.Places.{PageReads, PageTurns};
-ghost use Rattle.rv_scan.specs.Reads.{OneAtMost};
 ghost use Rattle.rv_jscan.specs.Joint.{CanMake, counts_at, plan_at};
 ghost use Rattle.rv_jscan.specs.Lanes.{IsOwn, LaneFits, leaf_once, passed};
 ghost use Rattle.rv_jscan.specs.Pieces.{may};
 ghost use Rattle.rv_jscan.specs.Steps.{held_next, piece_counted};
-ghost use Rattle.rv_final.specs.Rest.{StepMarks, qualifying};
-ghost use Rattle.rv_final.specs.Stage.{FetchesKey, LastFits, PassesKeys, first_key, list_left, table_left};
-ghost use Rattle.rv_final.specs.Work.{Falls, Tries};
-ghost use Rattle.rv_race.specs.Effort.{effort, keys_work, life_of, table_work};
+ghost use Rattle.rv_final.specs.Rest.{qualifying};
+ghost use Rattle.rv_race.specs.Effort.{effort, life_of};
 ghost use Rattle.rv_race.specs.Given.{Awaits, awaited, counts_read, next_id, one_leaf, turn_lane, turn_plan, turn_scan, with_lane};
 ghost use Rattle.rv_race.specs.Opened.{CanRace, Opened};
-ghost use Rattle.rv_race.specs.Raced.{RaceFits, racing, rest, rows_of};
-ghost use Rattle.rv_race.specs.Rulings.{completed, facts_of, gone, index_at, least_with, list_len, more, narrowed, passed_on, projected, recounted, scan_of, told_over, unnoted};
+ghost use Rattle.rv_race.specs.Raced.{RaceFits, rest, shell_of, with_shell};
+ghost use Rattle.rv_final.specs.Shell.{FinalStep, IsFinal, scanning, unnoted};
+ghost use Rattle.rv_race.specs.Rulings.{completed, facts_of, gone, index_at, least_with, list_len, more, narrowed, passed_on, projected, recounted, scan_of, told_over};
 ghost use Rattle.rv_jscan.specs.Planned.{indexes_of};
 ghost use Rattle.rv_race.specs.Runs.{Tells};
 ghost use Rattle.rv_race.specs.Ways.{advanced, lower};
 
 use crate::running::{Running, narrow};
-use rv_final::Final;
+use rv_final::Shell;
 use rv_jscan::{Lane, Piece, PieceId, ScanCounts, ScanPlan, Sieved, Within};
-use rv_judge::{Control, Counts, Event, Facts, Happening, Steps, Strategy, Trace, course, project};
+use rv_judge::{Control, Counts, Event, Facts, Happening, Steps, Strategy, Trace, project};
 use rv_keylist::KeyList;
 use rv_reader::{Reader, Step};
 use rv_restrict::Restriction;
@@ -53,10 +50,8 @@ pub struct Race {
     running: Running,
     number: u64,
     list: Option<KeyList>,
-    control: Control,
     guaranteed: u64,
-    ending: Final,
-    trace: Trace,
+    shell: Shell,
 }
 
 impl Model for Race {
@@ -65,7 +60,7 @@ impl Model for Race {
 
     ghost Value = { Raced };
 
-    ghost view = { λ r. record { table = r.table; snap = r.snap; cursor = r.cursor; opening = r.opening; only = r.only; plans = r.plans.items; counts = r.counts; running = r.running; number = r.number; list = keys_of r.list; control = r.control; guaranteed = r.guaranteed; at = r.ending.at; last = r.ending.last; trace = r.trace } };
+    ghost view = { λ r. record { table = r.table; snap = r.snap; cursor = r.cursor; opening = r.opening; only = r.only; plans = r.plans.items; counts = r.counts; running = r.running; number = r.number; list = keys_of r.list; control = r.shell.control; guaranteed = r.guaranteed; at = r.shell.at; last = r.shell.last; trace = r.shell.trace } };
 
     ghost invariant = { λ r. IsRace r.plans.items r.running r.list };
 }
@@ -76,13 +71,6 @@ fn plan_in(plans: &Vec<ScanPlan>, at: u32) -> &ScanPlan
     ensures { result.now ≡ plan_at plans.now.items at }
 {
     &plans[at as usize]
-}
-
-/// Takes the last event away.
-fn unnote(trace: &mut Trace)
-    ensures { trace.new ≡ unnoted trace.old }
-{
-    let _last = trace.events.pop();
 }
 
 impl Race {
@@ -108,10 +96,7 @@ impl Race {
             leaves: 0,
             listed: false,
         };
-        let mut trace = Trace::new(Strategy::BackgroundOnly);
-        trace.note(Event::At(Control::BackgroundAlone));
-        trace.note(Event::Scan(first));
-        let ending = Final::new(alloc, table, snap);
+        let shell = Shell::new(alloc, table, snap, Strategy::BackgroundOnly, first);
         Race {
             alloc,
             table,
@@ -124,10 +109,8 @@ impl Race {
             running: Running::begin(alloc),
             number: 1,
             list: None,
-            control: Control::BackgroundAlone,
             guaranteed: u64::from(pages),
-            ending,
-            trace,
+            shell,
         }
     }
 
@@ -162,7 +145,7 @@ impl Race {
     pub fn control(&self) -> Control
         ensures { result ≡ self.now.control }
     {
-        self.control
+        self.shell.control()
     }
 
     /// What it did so far.
@@ -170,21 +153,14 @@ impl Race {
         ensures now { result.now ≡ self.now.trace }
         ensures allowed { Tells self.now → Allowed result.now (indexes_of self.now.plans) }
     {
-        &self.trace
+        self.shell.trace()
     }
 
     /// Whether scans are under way.
     pub(crate) fn is_racing(&self) -> bool
-        ensures { result ≡ racing self.now.control }
+        ensures { result ≡ scanning self.now.control }
     {
-        match self.control {
-            Control::BackgroundAlone => true,
-            Control::Building
-            | Control::ForegroundAlone
-            | Control::FinalList
-            | Control::FinalTable
-            | Control::Done => false,
-        }
+        self.shell.is_scanning()
     }
 
     /// The id of the next piece, whichever of the two scans it is of: pieces are numbered through the race.
@@ -345,16 +321,16 @@ impl Race {
     pub(crate) fn note(&mut self, event: Event)
         ensures { self.new ≡ record self.old { trace = noted self.old.trace event } }
     {
-        self.trace.note(event);
+        self.shell.note(event);
     }
 
     /// The scan of an index is over: in the trace it stands in place of the scan that stood last, with what became of it.
     fn note_over(&mut self, index: u32, event: Event)
         ensures { self.new ≡ record self.old { trace = noted (noted (unnoted self.old.trace) (TheEvent.Scan index)) event } }
     {
-        unnote(&mut self.trace);
-        self.trace.note(Event::Scan(index));
-        self.trace.note(event);
+        self.shell.unnote();
+        self.shell.note(Event::Scan(index));
+        self.shell.note(event);
     }
 
     /// The scan whose turn it was is over, with what became of it.
@@ -369,9 +345,7 @@ impl Race {
     pub(crate) fn go(&mut self, happening: Happening)
         ensures { self.new ≡ gone happening self.old }
     {
-        let next = course(Strategy::BackgroundOnly, self.control, happening);
-        self.control = next;
-        self.trace.note(Event::At(next));
+        self.shell.go(Strategy::BackgroundOnly, happening);
     }
 
     /// A list of so many keys is complete: so many fetches finish the race.
@@ -385,7 +359,7 @@ impl Race {
     pub(crate) fn count(&mut self, before: Counts, after: Counts)
         ensures { self.new ≡ record self.old { trace = counted self.old.trace before after } }
     {
-        self.trace.count(before, after);
+        self.shell.count(before, after);
     }
 }
 
@@ -407,7 +381,7 @@ impl Race {
 
     /// Counts the awaited leaf, where it is still to be read.
     pub(crate) fn count_read(&mut self)
-        requires { racing self.old.control ≡ true }
+        requires { scanning self.old.control ≡ true }
         ensures { self.new ≡ record self.old { counts = counts_read self.old } }
     {
         if !self.is_held() {
@@ -536,49 +510,24 @@ impl Race {
         self.running.advance(self.alloc, listed, planned);
     }
 
-    /// A step through the complete list.
-    pub(crate) fn scan_list<R: Reader>(
+    /// A step of the final stage.
+    pub(crate) fn final_step<R: Reader>(
         &mut self,
         reader: &R,
         steps: &mut Steps<R::Ledger>,
     ) -> Result<Step<Record>, NoMemory>
+        requires over { IsFinal self.old.control }
         requires fits { RaceFits self.old (R.shown reader.now) }
-        ensures same { self.new ≡ record self.old { at = self.new.at } }
-        ensures marks { (need : List ℕ) → IfOk result (λ s. StepMarks need self.old.only (rows_of self.old (R.shown reader.now)) s (list_left self.old.list None self.old.at) (list_left self.old.list None self.new.at)) }
-        ensures fetches { IfOk result (FetchesKey (first_key self.old.list None self.old.at) self.old.only (rows_of self.old (R.shown reader.now)) steps.old steps.new) }
-        ensures passed { OnErr result (PassesKeys self.old.list None self.old.at self.new.at) }
-        ensures may_read { OneAtMost record_read steps.old steps.new }
-        ensures tries { Tries steps.old steps.new (keys_work self.old) (keys_work self.new) }
-        ensures falls { IfOk result (λ s. Falls s steps.old steps.new (keys_work self.old) (keys_work self.new)) }
+        ensures same { self.new ≡ with_shell (shell_of self.new) self.old }
+        ensures stepped { FinalStep self.old.table self.old.snap self.old.only self.old.list (R.shown reader.now) steps.old steps.new result (shell_of self.old) (shell_of self.new) }
     {
-        self.ending.list_step(
+        self.shell.step(
             reader,
             self.table,
             self.snap,
             &self.only,
             self.list.as_ref(),
-            None,
             steps,
         )
-    }
-
-    /// A step through the pages of the table.
-    pub(crate) fn scan_last<R: Reader>(
-        &mut self,
-        reader: &R,
-        steps: &mut Steps<R::Ledger>,
-    ) -> Result<Step<Record>, NoMemory>
-        requires fits { RaceFits self.old (R.shown reader.now) }
-        ensures same { self.new ≡ record self.old { last = self.new.last } }
-        ensures last { LastFits self.old.table self.old.snap self.new.last (R.shown reader.now) }
-        ensures marks { (need : List ℕ) → IfOk result (λ s. StepMarks need self.old.only (rows_of self.old (R.shown reader.now)) s (table_left self.old.last (rows_of self.old (R.shown reader.now)) None) (table_left self.new.last (rows_of self.old (R.shown reader.now)) None)) }
-        ensures err { OnErr result (self.new ≡ self.old) }
-        ensures may_read { OneAtMost page_read steps.old steps.new }
-        ensures reads { IfOk result (λ s. PageReads s steps.old steps.new) }
-        ensures turns { IfOk result (λ s. PageTurns s self.old.last self.new.last ((R.shown reader.now).pages self.old.table self.old.snap)) }
-        ensures tries { Tries steps.old steps.new (table_work self.old (R.shown reader.now)) (table_work self.new (R.shown reader.now)) }
-        ensures falls { IfOk result (λ s. Falls s steps.old steps.new (table_work self.old (R.shown reader.now)) (table_work self.new (R.shown reader.now))) }
-    {
-        self.ending.table_step(reader, &self.only, None, steps)
     }
 }

@@ -1,7 +1,5 @@
-ghost use Rattle.std.specs.Prelude.{◌≡◌, ℕ, IfOk, OnErr, Ok};
+ghost use Rattle.std.specs.Prelude.{◌≡◌, IfOk, OnErr, Ok};
 ghost use Rattle.rv_judge.specs.Tracing.{CountsRise};
-ghost use Rattle.rv_judge.specs.declared.judging.Facts.{Facts};
-ghost use Rattle.rv_judge.specs.Verdicts.{Ruling};
 ghost use Rattle.rv_final.specs.Work.{Falls, Tries};
 ghost use Rattle.rv_final.specs.LaneWork.{Spends};
 ghost use Rattle.rv_race.specs.Effort.{effort};
@@ -11,7 +9,7 @@ ghost use Rattle.rv_race.specs.Runs.{Tells};
 
 use crate::race::Race;
 use rv_jscan::{Taken, sieve};
-use rv_judge::{Control, Happening, Judge, Steps};
+use rv_judge::{Control, Judge, Steps};
 use rv_reader::{Reader, Step};
 use rv_value::{NoMemory, Record};
 
@@ -47,62 +45,6 @@ impl Race {
         }
     }
 
-    /// A step of the final stage over the complete list.
-    fn list_step<R: Reader>(
-        &mut self,
-        reader: &R,
-        steps: &mut Steps<R::Ledger>,
-    ) -> Result<Step<Record>, NoMemory>
-        requires control { self.old.control ≡ Control.FinalList }
-        requires fits { RaceFits self.old (R.shown reader.now) }
-        ensures does { (rules : ℕ → Facts → Ruling) (stands : ℕ) → IfOk result (λ s. Does rules stands stands (R.shown reader.now) steps.old steps.new s self.old self.new) }
-        ensures steady { Steady self.old self.new (R.shown reader.now) }
-        ensures step { IfOk result (DoesStep self.old self.new (R.shown reader.now)) }
-        ensures ends { IfOk result (EndsIn self.new) }
-        ensures err { OnErr result (rest self.new (R.shown reader.now) ≡ rest self.old (R.shown reader.now)) }
-        ensures still { OnErr result (OnlyTakes self.old self.new) }
-        ensures may_read { MayRead self.old.control self.old steps.old steps.new }
-        ensures tries { Tries steps.old steps.new (effort self.old (R.shown reader.now)) (effort self.new (R.shown reader.now)) }
-        ensures falls { IfOk result (λ s. Falls s steps.old steps.new (effort self.old (R.shown reader.now)) (effort self.new (R.shown reader.now))) }
-    {
-        match self.scan_list(reader, steps)? {
-            Step::Row(row) => Ok(Step::Row(row)),
-            Step::Working => Ok(Step::Working),
-            Step::End => {
-                self.go(Happening::FinalEnded);
-                Ok(Step::End)
-            }
-        }
-    }
-
-    /// A step of the final scan of the table.
-    fn table_step<R: Reader>(
-        &mut self,
-        reader: &R,
-        steps: &mut Steps<R::Ledger>,
-    ) -> Result<Step<Record>, NoMemory>
-        requires control { self.old.control ≡ Control.FinalTable }
-        requires fits { RaceFits self.old (R.shown reader.now) }
-        ensures does { (rules : ℕ → Facts → Ruling) (stands : ℕ) → IfOk result (λ s. Does rules stands stands (R.shown reader.now) steps.old steps.new s self.old self.new) }
-        ensures steady { Steady self.old self.new (R.shown reader.now) }
-        ensures step { IfOk result (DoesStep self.old self.new (R.shown reader.now)) }
-        ensures ends { IfOk result (EndsIn self.new) }
-        ensures err { OnErr result (rest self.new (R.shown reader.now) ≡ rest self.old (R.shown reader.now)) }
-        ensures still { OnErr result (OnlyTakes self.old self.new) }
-        ensures may_read { MayRead self.old.control self.old steps.old steps.new }
-        ensures tries { Tries steps.old steps.new (effort self.old (R.shown reader.now)) (effort self.new (R.shown reader.now)) }
-        ensures falls { IfOk result (λ s. Falls s steps.old steps.new (effort self.old (R.shown reader.now)) (effort self.new (R.shown reader.now))) }
-    {
-        match self.scan_last(reader, steps)? {
-            Step::Row(found) => Ok(Step::Row(found)),
-            Step::Working => Ok(Step::Working),
-            Step::End => {
-                self.go(Happening::FinalEnded);
-                Ok(Step::End)
-            }
-        }
-    }
-
     /// What a step does, before what it read is counted.
     fn stage_step<R: Reader>(
         &mut self,
@@ -126,8 +68,7 @@ impl Race {
     {
         match self.control() {
             Control::BackgroundAlone => self.background_step(reader, judge, steps),
-            Control::FinalList => self.list_step(reader, steps),
-            Control::FinalTable => self.table_step(reader, steps),
+            Control::FinalList | Control::FinalTable => self.final_step(reader, steps),
             Control::Done => Ok(Step::End),
             Control::Building | Control::ForegroundAlone => unreachable!(),
         }

@@ -4,7 +4,8 @@ ghost use Rattle.rv_judge.specs.Tracing.{CountsRise};
 ghost use Rattle.rv_final.specs.Work.{Tries};
 ghost use Rattle.rv_race.specs.Effort.{effort};
 ghost use Rattle.rv_race.specs.Given.{Awaits, TakesLeaf, TakesPiece, awaited, counts_read, piece_read, turn_lane};
-ghost use Rattle.rv_race.specs.Raced.{RaceFits, SameRace, racing, rest};
+ghost use Rattle.rv_race.specs.Raced.{RaceFits, SameRace, rest};
+ghost use Rattle.rv_final.specs.Shell.{scanning};
 ghost use Rattle.rv_race.specs.Runs.{IsOfUndropped, Tells};
 
 use crate::race::Race;
@@ -20,7 +21,7 @@ impl Race {
         reader: &R,
         steps: &mut Steps<R::Ledger>,
     ) -> Result<Piece, NoMemory>
-        requires under_way { racing self.old.control ≡ true }
+        requires under_way { scanning self.old.control ≡ true }
         requires fits { RaceFits self.old (R.shown reader.now) }
         ensures leaves { TakesLeaf self.old self.new }
         ensures told { self.new.trace ≡ self.old.trace }

@@ -24,7 +24,8 @@ use Rattle.rv_jscan.specs.Steps.{HasEntries}
 use Rattle.rv_final.specs.Rest.{StepMarks, rest_by}
 use Rattle.rv_final.specs.Stage.{FetchesKey, LastFits, PassesKeys, Staged, first_key, list_left, table_left}
 use Rattle.rv_final.specs.Work.{Falls}
-use Rattle.rv_final.proofs.Endings.{IsFinal, final_done, steps_by, told_as}
+use Rattle.rv_final.specs.Shell.{IsFinal}
+use Rattle.rv_final.proofs.Endings.{final_done, steps_by, told_as}
 use Rattle.rv_final.proofs.Givings.{was_accepted}
 use Rattle.rv_final.proofs.Rests.{no_rest, same_rest}
 use Rattle.rv_union.specs.Effort.{effort, keys_work, table_work}

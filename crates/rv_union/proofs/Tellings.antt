@@ -36,7 +36,8 @@ use Rattle.rv_union.specs.Rulings.{GivesOn, Obeys, accepted, dropped, going_on, 
 use Rattle.rv_jscan.specs.Planned.{indexes_of}
 use Rattle.rv_union.specs.Runs.{IsOfUndropped, OfFewIndexes, Tells, is_drop, tail_control}
 use Rattle.rv_union.specs.Unioned.{Unioned, present, scanning}
-use Rattle.rv_final.proofs.Endings.{IsFinal, final_done}
+use Rattle.rv_final.specs.Shell.{IsFinal}
+use Rattle.rv_final.proofs.Endings.{final_done}
 use Rattle.rv_final.proofs.Givings.{given_holds}
 use Rattle.rv_union.proofs.Few.{all_among, few, once_push, pushed_there, some_index}
 use Rattle.rv_union.proofs.Switches.{dropped_leads, drops, listed_leads, over_as}

@@ -2,7 +2,8 @@ use Rattle.std.proofs.Common.{◌≡◌, ◌∙◌, ap, false, refl, subst, sym,
 use Rattle.rv_value.proofs.Lists.{on_err}
 use Rattle.rv_judge.specs.declared.events.Control.TheVariants.{BackgroundAlone}
 use Rattle.rv_race.specs.Opened.{OnlyTakes}
-use Rattle.rv_race.specs.Raced.{Raced, racing}
+use Rattle.rv_race.specs.Raced.{Raced}
+use Rattle.rv_final.specs.Shell.{scanning}
 use Rattle.rv_final.proofs.LaneWork.{tries_on}
 use Rattle.rv_race.proofs.Efforts.{gives_less, leaf_spends, piece_falls}
 use Rattle.rv_race.proofs.Finals.{accepted_piece, one_piece}
@@ -15,7 +16,7 @@ use Rattle.rv_race.proofs.race.Race.background_step.Goals as goal
 pub unreachable-requires : goal.unreachable-requires
 unreachable-requires g c =
     let off = rw c.in-Nothing.is at c.in_ok-piece.ensures.taken in
-    let on : racing c.take_piece.new.self.control ≡ true = ap (λ (x : Raced). racing x.control) (took_parts c.args.self.now c.take_piece.new.self c.take_piece.ensures.leaves) ∙ ap racing c.requires.control in
+    let on : scanning c.take_piece.new.self.control ≡ true = ap (λ (x : Raced). scanning x.control) (took_parts c.args.self.now c.take_piece.new.self c.take_piece.ensures.leaves) ∙ ap scanning c.requires.control in
     absurd (let bad : true ≡ false = sym on ∙ off in cc)
 
 pub returns-clause-does : goal.returns-clause-does
