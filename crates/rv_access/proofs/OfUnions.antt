@@ -29,7 +29,8 @@ use Rattle.rv_union.specs.Opened.{DoesAs, DoesStep, EndsIn, OnlyTakes, StepsAs a
 use Rattle.rv_union.specs.Rulings.{GivesOn, Obeys, accepted, joined, next_member, over, ruled}
 use Rattle.rv_jscan.specs.Planned.{indexes_of}
 use Rattle.rv_union.specs.Runs.{Tells}
-use Rattle.rv_union.specs.Unioned.{SameUnion, UnionFits, Unioned, rest, scanning}
+use Rattle.rv_union.specs.Unioned.{SameUnion, UnionFits, Unioned, rest}
+use Rattle.rv_final.specs.Shell.{scanning}
 use Rattle.rv_final.proofs.Takings.{unawaited_read}
 use Rattle.rv_union.proofs.Switches.{over_as, told_parts}
 use Rattle.rv_access.specs.declared.access.Access.TheVariants.{Uniting}

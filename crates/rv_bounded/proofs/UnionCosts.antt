@@ -37,7 +37,9 @@ use Rattle.rv_union.specs.Effort.{keys_work}
 use Rattle.rv_union.specs.Given.{Answers, count_read, piece_read, reads_leaf}
 use Rattle.rv_union.specs.Opened.{DoesAs, MayRead, ended_by}
 use Rattle.rv_union.specs.Rulings.{GivesOn, Obeys, accepted, account_of, dropped, facts_of, going_on, has_next, index_of, joined, kept_of, lacks, listed, next_member, over, position, ruled, told, was_begun, with_keys}
-use Rattle.rv_union.specs.Unioned.{UnionFits, Unioned, present, rows_of, scanning}
+use Rattle.rv_union.specs.Unioned.{UnionFits, Unioned, present, rows_of}
+use Rattle.rv_final.specs.Shell.{scanning}
+use Rattle.rv_final.proofs.Shells.{only_scanning}
 use Rattle.skew_judges.specs.Guard.{IsBounded, Keeps, goes_on, keys_before}
 use Rattle.rv_bounded.specs.Calls.{Call, lost_by, lost_of}
 use Rattle.rv_bounded.specs.Calls.Call.{Step, StepLost, Take, TakeLost, Give}
@@ -46,7 +48,7 @@ use Rattle.rv_bounded.specs.Unions.{UnionDoesAll, UnionDoesCall, UnionGives, Uni
 use Rattle.rv_bounded.proofs.Ahead.{greatest}
 use Rattle.rv_bounded.proofs.Sound.{IsShort, built_sum, held_short, kept_sum, projected_least, short_held}
 use Rattle.rv_bounded.proofs.Stages.{behind, drawn_short, list_fewer, others_of, others_same, page_rise, record_rise, same_others, stage_by, stage_less, stage_most, sum_to, table_fewer}
-use Rattle.rv_bounded.proofs.UnionLaws.{Leafs, Placed, UnionSpends, give_spends, gone_dropped, gone_listed, idle_spends, leafs_placed, not_scanning, only_leafs, only_scanning, opened_most, opened_placed, step_lost, step_spends, take_lost, take_spends, takes_leafs, union_ahead}
+use Rattle.rv_bounded.proofs.UnionLaws.{Leafs, Placed, UnionSpends, give_spends, gone_dropped, gone_listed, idle_spends, leafs_placed, not_scanning, only_leafs, opened_most, opened_placed, step_lost, step_spends, take_lost, take_spends, takes_leafs, union_ahead}
 use Rattle.rv_bounded.proofs.Costs.{back_sum}
 use Rattle.rv_bounded.proofs.WholeLaws.{both_lost}
 use Rattle.rv_bounded.proofs.Sums.{less_more, le_on, same_less, risen_most, zero_least, add_lost, sum_none, sum_lost, still_sum}

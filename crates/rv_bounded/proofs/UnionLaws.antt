@@ -2,7 +2,6 @@
 use Rattle.std.proofs.Common.{◌≡◌, ℕ, ◌+◌, ◌-◌, ◌*◌, ◌^◌, ◌<◌, ◌≤◌, List, [], ◌∷◌, length, min, Bool, true, false, not, Option, Some, None, is_some, nat_lt, refl, ap, sym, ◌∙◌, subst, arith, if◌then◌else◌}
 use Rattle.std.specs.Cmp.{first_so}
 use Rattle.std.proofs.lemmas.Bool.{ltb-true, ltb-false}
-use Rattle.rv_value.proofs.Tests.{no_other}
 use Rattle.rv_value.specs.declared.record.IndexEntry.{IndexEntry}
 use Rattle.rv_judge.specs.declared.counting.Counts.{Counts}
 use Rattle.rv_judge.specs.declared.events.Control.{Control}
@@ -37,7 +36,9 @@ use Rattle.rv_jscan.specs.Steps.{held_next, leaf_counted}
 use Rattle.rv_union.specs.Given.{Answers, TakesLeaf, TakesPiece, count_read, piece_read, reads_leaf}
 use Rattle.rv_union.specs.Opened.{DoesAs, MayRead, OnePiece, OnlyTakes, Opened, ended_by}
 use Rattle.rv_union.specs.Rulings.{GivesOn, Obeys, accepted, dropped, facts_of, going_on, gone, has_next, index_of, joined, listed, next_member, over, position, ruled, told, was_begun}
-use Rattle.rv_union.specs.Unioned.{Unioned, rows_of, scanning}
+use Rattle.rv_union.specs.Unioned.{Unioned, rows_of}
+use Rattle.rv_final.specs.Shell.{scanning}
+use Rattle.rv_final.proofs.Shells.{only_scanning}
 use Rattle.skew_judges.specs.Guard.{IsBounded, Keeps, goes_on, share}
 use Rattle.rv_bounded.specs.Calls.{Call, lost_by, lost_of}
 use Rattle.rv_bounded.specs.Calls.Call.{Step, StepLost, Take, TakeLost, Give}
@@ -74,14 +75,6 @@ scanning_left p members u on = ap (λ (b : Bool). if b then union_sum p members 
 
 idle_left : (p members : ℕ) (u : Unioned) → scanning u.control ≡ false → union_ahead p members u ≡ 0
 idle_left p members u off = ap (λ (b : Bool). if b then union_sum p members u else 0) off
-
-pub only_scanning : (c : Control) → scanning c ≡ true → c ≡ BackgroundAlone
-only_scanning Building b = no_other b
-only_scanning ForegroundAlone b = no_other b
-only_scanning BackgroundAlone b = refl
-only_scanning FinalList b = no_other b
-only_scanning FinalTable b = no_other b
-only_scanning Done b = no_other b
 
 pub not_scanning : {X : Type 0} (b : Bool) → b ≡ true → b ≡ false → X
 not_scanning true on off = absurd (cc)

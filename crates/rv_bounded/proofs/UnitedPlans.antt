@@ -17,7 +17,8 @@ use Rattle.rv_jscan.specs.Steps.{HasEntries}
 use Rattle.rv_choice.specs.declared.query.Query.{Query}
 use Rattle.rv_choice.specs.Choice.{candidates_of}
 use Rattle.rv_union.specs.Given.{TakesPiece, awaited as union_awaited, next_id, piece_read as union_read}
-use Rattle.rv_union.specs.Unioned.{UnionFits, Unioned, present, scanning}
+use Rattle.rv_union.specs.Unioned.{UnionFits, Unioned, present}
+use Rattle.rv_final.specs.Shell.{scanning}
 use Rattle.rv_union.specs.Opened.{Opened as UnionOpened}
 use Rattle.rv_access.specs.declared.access.Access.{Access}
 use Rattle.rv_access.specs.declared.access.Access.TheVariants.{Competing, Racing, Uniting}

@@ -1,5 +1,5 @@
 -- A step of the final stage, and what it leaves of a shell.
-use Rattle.std.proofs.Common.{◌≡◌, ◌⊎◌, ℕ, ◌≤◌, List, [], length, true, Option, None, refl, ap, sym, ◌∙◌, arith, subst, inl, inr, Ok, Err, false}
+use Rattle.std.proofs.Common.{◌≡◌, ◌⊎◌, ℕ, List, [], length, true, Option, None, refl, ap, sym, ◌∙◌, arith, subst, inl, inr, Ok, Err, false}
 use Rattle.rv_value.specs.declared.duplicate.NoMemory.{NoMemory}
 use Rattle.rv_value.specs.declared.record.Record.{Record}
 use Rattle.rv_rows.specs.Rows.{Ascend}

@@ -1,5 +1,5 @@
 -- The final stage of a race.
-use Rattle.std.proofs.Common.{◌≡◌, ◌⊎◌, ℕ, ◌≤◌, List, [], length, true, false, refl, ap, sym, ◌∙◌, subst, inl, inr, Option, Some, None, IfSome, Result, Ok, Err, IfOk, OnErr}
+use Rattle.std.proofs.Common.{◌≡◌, ◌⊎◌, ℕ, ◌≤◌, List, [], length, false, refl, ap, sym, ◌∙◌, subst, inl, inr, Option, Some, None, IfSome, Result, Ok, Err, IfOk, OnErr}
 use Rattle.rv_value.specs.declared.duplicate.NoMemory.{NoMemory}
 use Rattle.rv_value.proofs.Tests.{no_way}
 use Rattle.rv_value.specs.declared.record.IndexEntry.{IndexEntry}

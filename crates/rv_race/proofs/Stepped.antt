@@ -1,5 +1,5 @@
 -- What a step does and keeps, and what it reads is counted.
-use Rattle.std.proofs.Common.{◌≡◌, ℕ, ◌≤◌, List, length, Option, false, [], refl, ap, sym, ◌∙◌, arith, subst, Result, Ok, Err, IfOk, OnErr}
+use Rattle.std.proofs.Common.{◌≡◌, ℕ, ◌≤◌, List, length, Option, [], refl, ap, sym, ◌∙◌, arith, subst, Result, Ok, Err, IfOk, OnErr}
 use Rattle.rv_value.specs.declared.duplicate.NoMemory.{NoMemory}
 use Rattle.rv_judge.specs.declared.counting.Counts.{Counts}
 use Rattle.rv_judge.specs.declared.events.Control.{Control}
@@ -23,7 +23,6 @@ use Rattle.rv_race.specs.Effort.{effort, keys_work}
 use Rattle.rv_race.specs.Given.{Answers, TakesLeaf, counts_read, holding, turn_lane}
 use Rattle.rv_race.specs.Opened.{Does, DoesAs, DoesStep, EndsIn, MayRead, OnlyTakes, Steady, StepsAs}
 use Rattle.rv_race.specs.Raced.{RaceFits, Raced, rest, shell_of, with_shell}
-use Rattle.rv_final.specs.Shell.{scanning}
 use Rattle.rv_race.specs.Rulings.{GivesOn}
 use Rattle.rv_final.proofs.Endings.{counts_raised, ends_by}
 use Rattle.rv_final.proofs.Shells.{final_over}

@@ -3,7 +3,7 @@ use Rattle.std.proofs.Common.{◌≡◌, ℕ, ◌⊎◌, List, Bool, true, false
 use Rattle.rv_value.proofs.Tests.{no_way}
 use Rattle.rv_keylist.specs.Keys.{has_key}
 use Rattle.rv_judge.specs.declared.events.Control.{Control}
-use Rattle.rv_judge.specs.declared.events.Control.TheVariants.{Building, ForegroundAlone, BackgroundAlone, FinalList, FinalTable, Done}
+use Rattle.rv_judge.specs.declared.events.Control.TheVariants.{BackgroundAlone, FinalList, FinalTable}
 use Rattle.rv_judge.specs.declared.events.Happening.{Happening}
 use Rattle.rv_judge.specs.declared.events.Happening.TheVariants.{ScanEnded, Ruled}
 use Rattle.rv_judge.specs.declared.events.Strategy.TheVariants.{BackgroundOnly}

@@ -1,5 +1,5 @@
 -- A race's trace goes on telling a run of the course, with each piece, each end of a scan and each verdict.
-use Rattle.std.proofs.Common.{◌≡◌, ◌⊎◌, ◌∙◌, ℕ, ◌+◌, ◌-◌, ◌<◌, ◌≤◌, List, [], ◌∷◌, ◌++◌, Bool, true, false, not, ◌||◌, Option, Some, None, is_some, IfSome, length, drop, take, min, nat_lt, nat_eq, refl, ap, sym, subst, arith, append_assoc, length-append, suc, inl, inr, Result, Ok, Err, IfOk, OnErr}
+use Rattle.std.proofs.Common.{◌≡◌, ◌⊎◌, ◌∙◌, ℕ, ◌+◌, ◌-◌, ◌<◌, ◌≤◌, List, [], ◌∷◌, ◌++◌, Bool, true, false, not, Option, Some, None, is_some, IfSome, length, drop, take, min, nat_lt, nat_eq, refl, ap, sym, subst, arith, append_assoc, length-append, inl, inr, Result, Ok, Err, IfOk, OnErr}
 use Rattle.std.specs.List.{list_all}
 use Rattle.std.proofs.lemmas.Bool.{cases_Bool, and_from}
 use Rattle.std.proofs.lemmas.Bool.Decides.{nat_tests}
@@ -37,14 +37,13 @@ use Rattle.rv_race.specs.declared.running.Runner.{Runner}
 use Rattle.rv_race.specs.declared.running.Running.{Running}
 use Rattle.rv_race.specs.Given.{Answers, TakesPiece, turn_lane, turn_scan}
 use Rattle.rv_race.specs.Raced.{Raced}
-use Rattle.rv_final.specs.Shell.{scanning}
+use Rattle.rv_final.specs.Shell.{scanning, IsFinal}
 use Rattle.rv_race.specs.Rulings.{GivesOn, Obeys, accepted, dropped, ended, going_on, gone, index_at, listed, more, narrowed_by, passed_on, ruled, stopped, told_over}
 use Rattle.rv_jscan.specs.Planned.{indexes_of}
 use Rattle.rv_judge.specs.Drops.{was_dropped}
 use Rattle.rv_judge.proofs.Indexes.{front_once}
 use Rattle.rv_race.specs.Runs.{Ended, IsOfUndropped, Placed, Tells, TellsBy, TellsOver, TellsRacing, ended_indexes, events_left, is_keyed, keyed, later, left_by, left_of, list_length, listed_by, outcome, told_ends}
 use Rattle.rv_race.specs.Ways.{advanced, followed, followed_by, has_next, joined, lower, lower_of, turned, turned_to}
-use Rattle.rv_final.specs.Shell.{IsFinal}
 use Rattle.rv_final.proofs.Endings.{final_done}
 use Rattle.rv_final.proofs.Givings.{given_holds}
 use Rattle.rv_final.proofs.Shells.{only_scanning}

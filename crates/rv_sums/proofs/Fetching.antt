@@ -23,12 +23,12 @@ use Rattle.rv_jscan.specs.declared.jscan.Taken.{Taken}
 use Rattle.rv_jscan.specs.Steps.{held_next}
 use Rattle.rv_final.specs.Stage.{FetchesKey, first_key}
 use Rattle.rv_final.specs.Work.{Falls}
+use Rattle.rv_final.proofs.Shells.{only_scanning}
 use Rattle.rv_union.specs.Effort.{keys_work}
 use Rattle.rv_union.specs.Given.{Answers, piece_read, reads_leaf}
 use Rattle.rv_union.specs.Opened.{DoesAs, MayRead, Opened, ended_by}
 use Rattle.rv_union.specs.Rulings.{GivesOn}
 use Rattle.rv_union.specs.Unioned.{AreMet, SameUnion, Unioned, meets_any, rows_of}
-use Rattle.rv_union.proofs.Switches.{is_scanning}
 use Rattle.rv_bounded.specs.Calls.{Call, lost_by, lost_of}
 use Rattle.rv_bounded.specs.Calls.Call.{Step, StepLost, Take, TakeLost, Give}
 use Rattle.rv_bounded.specs.Unions.{UnionGives, UnionSteps, UnionStepsLost, UnionTakes}
@@ -178,7 +178,7 @@ give_few : (would : ℕ → Facts → Ruling) (shown : Shown) (rows : List ℕ) 
 give_few would shown rows old new g listed all = by g.given g.answers g.obeys
   where
     by : (given : Given) → Answers old g.piece given new → GivesOn would g.state g.after g.piece given old new → new.trace.fetches + left rows new ≤ old.trace.fetches + left rows old + 0
-    by Accepted awaits obeys = unread old.trace.fetches new.trace.fetches (left rows old) (left rows new) g.counts.fetches (by_le (left rows new) (left rows new) (length rows) (left rows old) refl (left_most new.control (length rows) (keys_work new) (λ list. obeys_few (held_next old.lane.held) would g.state g.after shown rows g.piece old new awaits.under_way obeys list listed all)) (left_at rows old BackgroundAlone (is_scanning old.control awaits.under_way)))
+    by Accepted awaits obeys = unread old.trace.fetches new.trace.fetches (left rows old) (left rows new) g.counts.fetches (by_le (left rows new) (left rows new) (length rows) (left rows old) refl (left_most new.control (length rows) (keys_work new) (λ list. obeys_few (held_next old.lane.held) would g.state g.after shown rows g.piece old new awaits.under_way obeys list listed all)) (left_at rows old BackgroundAlone (only_scanning old.control awaits.under_way)))
     by (Stale asked now) answers obeys = unread old.trace.fetches new.trace.fetches (left rows old) (left rows new) g.counts.fetches (same_le (left rows new) (left rows old) (ap (λ (u : Unioned). left rows u) obeys.0))
 
 call_few : (call : Call) (shown : Shown) (rows : List ℕ) (old new : Unioned) → UnionCalled call shown old new → HasMet rows new shown → new.trace.fetches + left rows new ≤ old.trace.fetches + left rows old + lost_of call

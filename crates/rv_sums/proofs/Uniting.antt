@@ -23,7 +23,8 @@ use Rattle.rv_final.specs.LaneWork.{effort_by}
 use Rattle.rv_union.specs.Effort.{keys_work, scanning_work, table_work}
 use Rattle.rv_union.specs.Given.{Awaits}
 use Rattle.rv_union.specs.Rulings.{GivesOn, Obeys, accepted, dropped, going_on, has_next, index_of, joined, listed, next_member, over, ruled as ruled_by, told, was_begun}
-use Rattle.rv_union.specs.Unioned.{AreMet, UnionFits, Unioned, scanning}
+use Rattle.rv_union.specs.Unioned.{AreMet, UnionFits, Unioned}
+use Rattle.rv_final.specs.Shell.{scanning}
 use Rattle.rv_union.proofs.Switches.{dropped_leads}
 use Rattle.rv_access.specs.declared.access.Access.{Access}
 use Rattle.rv_access.specs.declared.access.Access.TheVariants.{Competing, Racing, Uniting}

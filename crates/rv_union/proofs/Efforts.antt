@@ -28,11 +28,13 @@ use Rattle.rv_final.specs.LaneWork.{GiveSpends, effort_by, lane_work, planned_wo
 use Rattle.rv_union.specs.Effort.{effort, keys_work, scanning_work, table_work}
 use Rattle.rv_union.specs.Given.{Answers, Awaits, TakesLeaf, TakesPiece, count_read, holding, piece_read, reads_leaf}
 use Rattle.rv_union.specs.Rulings.{GivesOn, Obeys, accepted, dropped, facts_of, going_on, joined, kept_of, lacks, listed, next_member, over, ruled}
-use Rattle.rv_union.specs.Unioned.{UnionFits, Unioned, present, scanning}
+use Rattle.rv_union.specs.Unioned.{UnionFits, Unioned, present}
+use Rattle.rv_final.specs.Shell.{scanning}
 use Rattle.rv_final.proofs.LaneWork.{passed_work}
 use Rattle.rv_final.proofs.Givings.{spends_no_more, put_if}
 use Rattle.rv_final.proofs.Takings.{built_few, leaf_tries, taken_spends}
-use Rattle.rv_union.proofs.Switches.{dropped_leads, drops, is_scanning, listed_leads, over_as, told_parts}
+use Rattle.rv_final.proofs.Shells.{only_scanning}
+use Rattle.rv_union.proofs.Switches.{dropped_leads, drops, listed_leads, over_as, told_parts}
 use Rattle.rv_union.proofs.Takes.{took_parts}
 
 -- THE MEMBERS
@@ -47,7 +49,7 @@ pub effort_at : (u : Unioned) (shown : Shown) (c : Control) → u.control ≡ c 
 effort_at u shown c e = ap (λ (x : Control). effort_by x (scanning_work u shown) (keys_work u) (table_work u shown)) e
 
 effort_scanning : (u : Unioned) (shown : Shown) → scanning u.control ≡ true → effort u shown ≡ scanning_work u shown
-effort_scanning u shown back = effort_at u shown BackgroundAlone (is_scanning u.control back)
+effort_scanning u shown back = effort_at u shown BackgroundAlone (only_scanning u.control back)
 
 -- what is left without the present member
 abbrev pub left_work : Unioned → Shown → ℕ
@@ -105,7 +107,7 @@ obeyed_work would state after piece old new shown None a e o f =
     let mid = joined o.0.keys (accepted piece true old) in
     let was = effort_scanning old shown a.under_way in
     let ends = ap (λ (x : Unioned). effort x shown) o.0.ends in
-    let less = over_work mid shown a.under_way refl (f.unbegun a.under_way) in
+    let less = over_work mid shown a.under_way refl (f.shell.unbegun a.under_way) in
     let list = built_few (present old) shown old.snap old.lane (lacks old.keys) piece a.own.entries f.lane.drawn e in
     let same = length_permutation (old.keys ++ (old.lane.building ++ kept_of old piece)) o.0.keys o.0.built in
     let sum = length-append old.keys (old.lane.building ++ kept_of old piece) in

@@ -1,70 +1,53 @@
 -- The final stage of a union.
-use Rattle.std.proofs.Common.{◌≡◌, ℕ, ◌≤◌, List, [], length, true, false, refl, ap, sym, ◌∙◌, subst, Option, Some, None, IfSome}
+use Rattle.std.proofs.Common.{◌≡◌, ◌⊎◌, ℕ, ◌≤◌, List, [], length, false, refl, ap, sym, ◌∙◌, subst, inl, inr, Option, Some, None, IfSome, Result, Ok, Err, IfOk, OnErr}
+use Rattle.rv_value.specs.declared.duplicate.NoMemory.{NoMemory}
 use Rattle.rv_value.proofs.Tests.{no_way}
 use Rattle.rv_value.specs.declared.record.IndexEntry.{IndexEntry}
+use Rattle.rv_value.specs.declared.record.Record.{Record}
 use Rattle.rv_judge.specs.declared.counting.Counts.{Counts}
 use Rattle.rv_judge.specs.declared.events.Control.{Control}
 use Rattle.rv_judge.specs.declared.events.Control.TheVariants.{BackgroundAlone, FinalList, FinalTable, Done}
+use Rattle.rv_judge.specs.declared.events.Event.TheVariants.{At}
 use Rattle.rv_judge.specs.declared.events.Happening.TheVariants.{FinalEnded}
 use Rattle.rv_judge.specs.declared.events.Strategy.TheVariants.{Union}
 use Rattle.rv_judge.specs.declared.judging.Facts.{Facts}
+use Rattle.rv_judge.specs.Tracing.{noted}
 use Rattle.rv_judge.specs.Verdicts.{Ruling}
 use Rattle.rv_reader.specs.declared.reader.Chunk.{Chunk}
 use Rattle.rv_reader.specs.Shown.{Shown}
-use Rattle.rv_scan.specs.Places.{PageReads, PageTurns}
 use Rattle.rv_reader.specs.declared.step.Step.{Step}
-use Rattle.rv_value.specs.declared.record.Record.{Record}
-use Rattle.rv_reader.specs.declared.step.Step.TheVariants.{Working, End}
+use Rattle.rv_reader.specs.declared.step.Step.TheVariants.{Row, Working, End}
 use Rattle.rv_jscan.specs.declared.jscan.Given.{Given}
 use Rattle.rv_jscan.specs.declared.jscan.Given.TheVariants.{Accepted}
 use Rattle.rv_jscan.specs.declared.jscan.ScanPlan.{ScanPlan}
 use Rattle.rv_jscan.specs.Lanes.{IsLeafAt}
 use Rattle.rv_jscan.specs.Pieces.{Pieced}
 use Rattle.rv_jscan.specs.Steps.{HasEntries}
-use Rattle.rv_final.specs.Rest.{StepMarks, rest_by}
-use Rattle.rv_final.specs.Stage.{FetchesKey, LastFits, PassesKeys, Staged, first_key, list_left, table_left}
-use Rattle.rv_final.specs.Work.{Falls}
-use Rattle.rv_final.specs.Shell.{IsFinal}
-use Rattle.rv_final.proofs.Endings.{final_done, steps_by, told_as}
+use Rattle.rv_final.specs.Rest.{Steps, rest_by}
+use Rattle.rv_final.specs.Shell.{FinalDoes, FinalReads, FinalStep, IsFinal, Shelled, ended, ended_by as shell_ended, final_work, left_by, moved, rest as rest_left, scanning}
+use Rattle.rv_final.specs.Stage.{LastFits, Staged, keys_left}
+use Rattle.rv_final.specs.Work.{Falls, Tries}
+use Rattle.rv_final.proofs.Endings.{final_done, told_as}
 use Rattle.rv_final.proofs.Givings.{was_accepted}
-use Rattle.rv_final.proofs.Rests.{no_rest, same_rest}
-use Rattle.rv_union.specs.Effort.{effort, keys_work, table_work}
+use Rattle.rv_final.proofs.Rests.{no_rest}
+use Rattle.rv_final.proofs.Shells.{final_over, no_scans, stays_over}
+use Rattle.rv_union.specs.Effort.{effort, keys_work, scanning_work, table_work}
 use Rattle.rv_union.specs.Given.{Answers, Awaits, TakesLeaf, piece_read}
-use Rattle.rv_union.specs.Opened.{Does, DoesAs, DoesStep, Steady, ended_by}
-use Rattle.rv_union.specs.Unioned.{UnionFits, Unioned, left_by, present, scanning, rest, rows_of}
+use Rattle.rv_union.specs.Opened.{Does, DoesAs, DoesStep, MayRead, Steady, ended_by}
+use Rattle.rv_union.specs.Unioned.{UnionFits, Unioned, present, rest, rows_of, shell_of, with_shell}
 use Rattle.rv_union.specs.Rulings.{GivesOn, gone}
-use Rattle.rv_union.proofs.Efforts.{effort_at}
 use Rattle.rv_union.proofs.Switches.{aside_fits}
 use Rattle.rv_union.proofs.Tellings.{aside_tells, done_tells}
 
 -- THE REST, BY THE CONTROL
 
-pub rest_at : (r : Unioned) (shown : Shown) (c : Control) → r.control ≡ c → rest r shown ≡ rest_by (left_by c r.keys r.at r.last (rows_of r shown)) r.only (rows_of r shown)
-rest_at r shown c e = ap (λ (x : Control). rest_by (left_by x r.keys r.at r.last (rows_of r shown)) r.only (rows_of r shown)) e
+pub rest_at : (r : Unioned) (shown : Shown) (c : Control) → r.control ≡ c → rest r shown ≡ rest_by (left_by c (Some r.keys) r.at r.last (rows_of r shown)) r.only (rows_of r shown)
+rest_at r shown c e = ap (λ (x : Control). rest_by (left_by x (Some r.keys) r.at r.last (rows_of r shown)) r.only (rows_of r shown)) e
 
 pub done_rest : (r : Unioned) (shown : Shown) → r.control ≡ Done → rest r shown ≡ []
 done_rest r shown e = rest_at r shown Done e ∙ no_rest r.only (rows_of r shown) (λ n. false) (λ n q. refl)
 
--- The list.
-
-pub list_scanned : (r new : Unioned) (shown : Shown) (s : Step Record) → r.control ≡ FinalList → new ≡ record r { at = new.at } → UnionFits r shown → ((need : List ℕ) → StepMarks need r.only (rows_of r shown) s (list_left (Some r.keys) None r.at) (list_left (Some r.keys) None new.at)) → DoesStep r new shown s
-list_scanned r new shown s c e f marks need =
-    let now = ap (λ (x : Unioned). rest x shown) e ∙ rest_at (record r { at = new.at }) shown FinalList c in
-    steps_by need r.only (rows_of r shown) s (list_left (Some r.keys) None r.at) (list_left (Some r.keys) None new.at) (rest r shown) (rest new shown) (rest_at r shown FinalList c) now f.ascend (marks need)
-
-pub passed_rest : (r new : Unioned) (shown : Shown) → r.control ≡ FinalList → new ≡ record r { at = new.at } → PassesKeys (Some r.keys) None r.at new.at → rest new shown ≡ rest r shown
-passed_rest r new shown c e p =
-    let next = record r { at = new.at } in
-    ap (λ (x : Unioned). rest x shown) e ∙ rest_at next shown FinalList c ∙ same_rest r.only (rows_of r shown) (list_left (Some r.keys) None r.at) (list_left (Some r.keys) None new.at) (λ n q. p.same n) ∙ sym (rest_at r shown FinalList c)
-
--- The table.
-
-pub table_scanned : (r new : Unioned) (shown : Shown) (s : Step Record) → r.control ≡ FinalTable → new ≡ record r { last = new.last } → UnionFits r shown → ((need : List ℕ) → StepMarks need r.only (rows_of r shown) s (table_left r.last (rows_of r shown) None) (table_left new.last (rows_of r shown) None)) → DoesStep r new shown s
-table_scanned r new shown s c e f marks need =
-    let now = ap (λ (x : Unioned). rest x shown) e ∙ rest_at (record r { last = new.last }) shown FinalTable c in
-    steps_by need r.only (rows_of r shown) s (table_left r.last (rows_of r shown) None) (table_left new.last (rows_of r shown) None) (rest r shown) (rest new shown) (rest_at r shown FinalTable c) now f.ascend (marks need)
-
--- What the final stage's calls leave of the union.
+-- the final stage's place in the union
 
 abbrev pub stage_of : Unioned → Staged
 stage_of r = record { at = r.at; last = r.last }
@@ -74,11 +57,12 @@ with_stage r s = record r { at = s.at; last = s.last }
 
 -- THE FIT
 
-not_scanning : (c d : Control) → c ≡ d → scanning d ≡ false → scanning c ≡ true → true ≡ false
-not_scanning c d e off on = sym on ∙ ap scanning e ∙ off
+-- an end leads to the last control
+gone_done : (r : Unioned) → IsFinal r.control → gone FinalEnded r ≡ record r { control = Done; trace = noted r.trace (At Done) }
+gone_done r at = ap (λ (c : Control). record r { control = c; trace = noted r.trace (At c) }) (final_done Union r.control at)
 
 pub done_fits : (r : Unioned) (shown : Shown) → IsFinal r.control → UnionFits r shown → UnionFits (gone FinalEnded r) shown
-done_fits r shown at f = subst (λ (c : Control). UnionFits (record r { control = c; trace = (gone FinalEnded r).trace }) shown) (sym (final_done Union r.control at)) (aside_fits r Done r.at r.last (gone FinalEnded r).trace shown f.last (λ h. no_way (sym h)) (λ h. no_way (sym h)) (λ h. absurd (cc)) refl f)
+done_fits r shown at f = subst (λ (c : Control). UnionFits (record r { control = c; trace = (gone FinalEnded r).trace }) shown) (sym (final_done Union r.control at)) (aside_fits r Done r.at r.last (gone FinalEnded r).trace shown f.shell.last (λ h. no_way (sym h)) (λ h. no_way (sym h)) (λ h. absurd (cc)) refl f)
 
 -- WHAT EVERY STEP OF IT KEEPS
 
@@ -91,11 +75,8 @@ stage_steady r s shown f = record {
   tells = λ t. aside_tells r (with_stage r s) refl refl refl refl refl t;
 }
 
-pub list_steady : (r new : Unioned) (shown : Shown) → r.control ≡ FinalList → new ≡ record r { at = new.at } → UnionFits r shown → Steady r new shown
-list_steady r new shown c e f = subst (λ (x : Unioned). Steady r x shown) (sym e) (stage_steady r (record { at = new.at; last = r.last }) shown (aside_fits r r.control new.at r.last r.trace shown f.last (λ h. no_way (not_scanning r.control FinalList c refl h)) f.finds f.covers f.stands f))
-
-pub table_steady : (r new : Unioned) (shown : Shown) → r.control ≡ FinalTable → new ≡ record r { last = new.last } → LastFits r.table r.snap new.last shown → UnionFits r shown → Steady r new shown
-table_steady r new shown c e l f = subst (λ (x : Unioned). Steady r x shown) (sym e) (stage_steady r (record { at = r.at; last = new.last }) shown (aside_fits r r.control r.at new.last r.trace shown l (λ h. no_way (not_scanning r.control FinalTable c refl h)) f.finds f.covers f.stands f))
+moved_steady : (r : Unioned) (s : Staged) (shown : Shown) → IsFinal r.control → LastFits r.table r.snap s.last shown → UnionFits r shown → Steady r (with_stage r s) shown
+moved_steady r s shown at l f = stage_steady r s shown (aside_fits r r.control s.at s.last r.trace shown l (λ h. no_way (sym h ∙ final_over r.control at)) f.finds f.covers f.shell.stands f)
 
 pub ended_steady : (r mid new : Unioned) (shown : Shown) → IsFinal mid.control → new ≡ gone FinalEnded mid → Steady r mid shown → Steady r new shown
 ended_steady r mid new shown at e s = subst (λ (x : Unioned). Steady r x shown) (sym e) record {
@@ -105,34 +86,80 @@ ended_steady r mid new shown at e s = subst (λ (x : Unioned). Steady r x shown)
   tells = λ t. done_tells mid at (s.tells t);
 }
 
--- a step that ends over an empty rest
-pub ended_step : (r mid new : Unioned) (shown : Shown) → IsFinal mid.control → new ≡ gone FinalEnded mid → DoesStep r mid shown End → DoesStep r new shown End
-ended_step r mid new shown at e step need =
-    let none = step need in
-    (none.0, ap (λ (x : Unioned). rest x shown) e ∙ done_rest (gone FinalEnded mid) shown (final_done Union mid.control at))
+-- A STEP OF THE FINAL STAGE, as the shell makes it
 
--- THE EFFORT
+abbrev pub Finishes : Shown → Counts → Counts → Result (Step Record) NoMemory → Unioned → Unioned → Type 0
+Finishes shown c d r old new = FinalStep old.table old.snap old.only (Some old.keys) shown c d r (shell_of old) (shell_of new)
 
--- over the list it is that of its keys, over the table that of its scan
-pub list_effort : (P : ℕ → ℕ → Type 0) (r new : Unioned) (shown : Shown) → r.control ≡ FinalList → new ≡ record r { at = new.at } → P (keys_work r) (keys_work new) → P (effort r shown) (effort new shown)
-list_effort P r new shown e n h = told_as P (keys_work r) (keys_work new) (effort r shown) (effort new shown) (effort_at r shown FinalList e) (effort_at new shown FinalList (ap (λ (x : Unioned). x.control) n ∙ e)) h
+pub final_steady : (r : Result (Step Record) NoMemory) (shown : Shown) (c d : Counts) (old new : Unioned) → IsFinal old.control → new ≡ with_shell (shell_of new) old → Finishes shown c d r old new → UnionFits old shown → Steady old new shown
+final_steady r shown c d old new at same f fits = by f.moves
+  where
+    mid : Unioned
+    mid = with_stage old (stage_of new)
 
-pub table_effort : (P : ℕ → ℕ → Type 0) (r new : Unioned) (shown : Shown) → r.control ≡ FinalTable → new ≡ record r { last = new.last } → P (table_work r shown) (table_work new shown) → P (effort r shown) (effort new shown)
-table_effort P r new shown e n h = told_as P (table_work r shown) (table_work new shown) (effort r shown) (effort new shown) (effort_at r shown FinalTable e) (effort_at new shown FinalTable (ap (λ (x : Unioned). x.control) n ∙ e)) h
+    steady : Steady old mid shown
+    steady = moved_steady old (stage_of new) shown at f.last fits
 
-pub ended_effort : (mid new : Unioned) (shown : Shown) → IsFinal mid.control → new ≡ gone FinalEnded mid → effort new shown ≡ 0
-ended_effort mid new shown at e = ap (λ (x : Unioned). effort x shown) e ∙ effort_at (gone FinalEnded mid) shown Done (final_done Union mid.control at)
+    by : ((shell_of new ≡ moved (shell_of old) (shell_of new)) ⊎ (shell_of new ≡ ended (moved (shell_of old) (shell_of new)))) → Steady old new shown
+    by (inl e) = subst (λ (x : Unioned). Steady old x shown) (sym (same ∙ ap (λ (s : Shelled). with_shell s old) e)) steady
+    by (inr e) = ended_steady old mid new shown at (same ∙ ap (λ (s : Shelled). with_shell s old) e ∙ sym (gone_done mid at)) steady
 
--- WHAT A STEP DOES
+as_ended : (s : Step Record) (r : Unioned) → IsFinal r.control → with_shell (shell_ended s (shell_of r)) r ≡ ended_by s r
+as_ended (Row x) r at = refl
+as_ended Working r at = refl
+as_ended End r at = sym (gone_done r at)
 
-pub list_does : (rules : ℕ → Facts → Ruling) (stands : ℕ) (r new : Unioned) (shown : Shown) (c d : Counts) (s : Step Record) → r.control ≡ FinalList → FetchesKey (first_key (Some r.keys) None r.at) r.only (rows_of r shown) c d s → new ≡ ended_by s (record r { at = new.at }) → Falls s c d (keys_work r) (keys_work new) → Does rules stands stands shown c d s r new
-list_does rules stands r new shown c d s e fetches n falls = subst (λ (x : Control). DoesAs x rules stands stands shown c d s r new) (sym e) (refl, fetches, n, falls)
+pub final_does : (r : Result (Step Record) NoMemory) (rules : ℕ → Facts → Ruling) (stands : ℕ) (shown : Shown) (c d : Counts) (old new : Unioned) → IsFinal old.control → new ≡ with_shell (shell_of new) old → Finishes shown c d r old new → IfOk r (λ s. Does rules stands stands shown c d s old new)
+final_does (Err x) rules stands shown c d old new at same f = tt
+final_does (Ok s) rules stands shown c d old new at same f = by at
+  where
+    FinalDoesAt : Control → Type 0
+    FinalDoesAt x = FinalDoes x old.only (rows_of old shown) (shown.pages old.table old.snap) (Some old.keys) c d s (shell_of old) (shell_of new)
 
-pub table_does : (rules : ℕ → Facts → Ruling) (stands : ℕ) (r new : Unioned) (shown : Shown) (c d : Counts) (s : Step Record) → r.control ≡ FinalTable → PageReads s c d → new ≡ ended_by s (record r { last = new.last }) → PageTurns s r.last new.last (shown.pages r.table r.snap) → Does rules stands stands shown c d s r new
-table_does rules stands r new shown c d s e reads n turns = subst (λ (x : Control). DoesAs x rules stands stands shown c d s r new) (sym e) (refl, reads, n, turns)
+    by : IsFinal old.control → Does rules stands stands shown c d s old new
+    by (inl e) =
+        let does : FinalDoesAt FinalList = subst FinalDoesAt e f.does in
+        let mid = record old { at = new.at } in
+        let is : new ≡ ended_by s mid = same ∙ ap (λ (x : Shelled). with_shell x old) does.1 ∙ as_ended s mid (inl e) in
+        let falls = subst (λ (keys : List ℕ). Falls s c d (keys_work old) (length (keys_left (Some keys) new.at))) (sym (ap (λ (x : Unioned). x.keys) same)) does.2 in
+        subst (λ (x : Control). DoesAs x rules stands stands shown c d s old new) (sym e) (refl, does.0, is, falls)
+    by (inr e) =
+        let does : FinalDoesAt FinalTable = subst FinalDoesAt e f.does in
+        let mid = record old { last = new.last } in
+        let is : new ≡ ended_by s mid = same ∙ ap (λ (x : Shelled). with_shell x old) does.1 ∙ as_ended s mid (inr e) in
+        subst (λ (x : Control). DoesAs x rules stands stands shown c d s old new) (sym e) (refl, does.0, is, does.2)
 
-pub ends_done : (mid new : Unioned) → IsFinal mid.control → new ≡ gone FinalEnded mid → new.control ≡ Done
-ends_done mid new at e = ap (λ (x : Unioned). x.control) e ∙ final_done Union mid.control at
+-- the rest and the effort are those of the shell
+final_rest : (old new : Unioned) (shown : Shown) → new ≡ with_shell (shell_of new) old → rest new shown ≡ rest_left old.only (rows_of old shown) (Some old.keys) (shell_of new)
+final_rest old new shown same = ap (λ (x : Unioned). rest x shown) same
+
+pub final_scanned : (r : Result (Step Record) NoMemory) (shown : Shown) (c d : Counts) (old new : Unioned) → new ≡ with_shell (shell_of new) old → Finishes shown c d r old new → IfOk r (DoesStep old new shown)
+final_scanned (Err x) shown c d old new same f = tt
+final_scanned (Ok s) shown c d old new same f = λ need. subst (λ (left : List Record). Steps need [] s (rest old shown) left) (sym (final_rest old new shown same)) (f.step need)
+
+pub final_wanting : (r : Result (Step Record) NoMemory) (shown : Shown) (c d : Counts) (old new : Unioned) → new ≡ with_shell (shell_of new) old → Finishes shown c d r old new → OnErr r (rest new shown ≡ rest old shown)
+final_wanting (Err x) shown c d old new same f = final_rest old new shown same ∙ f.err
+final_wanting (Ok s) shown c d old new same f = tt
+
+effort_over : (r : Unioned) (shown : Shown) → scanning r.control ≡ false → effort r shown ≡ final_work (rows_of r shown) (shown.pages r.table r.snap) (Some r.keys) (shell_of r)
+effort_over r shown off = no_scans r.control (scanning_work r shown) (keys_work r) (table_work r shown) off
+
+pub final_effort : (r : Result (Step Record) NoMemory) (P : ℕ → ℕ → Type 0) (shown : Shown) (c d : Counts) (old new : Unioned) → IsFinal old.control → new ≡ with_shell (shell_of new) old → Finishes shown c d r old new → P (final_work (rows_of old shown) (shown.pages old.table old.snap) (Some old.keys) (shell_of old)) (final_work (rows_of old shown) (shown.pages old.table old.snap) (Some old.keys) (shell_of new)) → P (effort old shown) (effort new shown)
+final_effort r P shown c d old new at same f h =
+    let off : scanning new.control ≡ false = stays_over (shell_of old) (shell_of new) at f.moves in
+    let left = effort_over new shown off ∙ ap (λ (x : Unioned). final_work (rows_of x shown) (shown.pages x.table x.snap) (Some x.keys) (shell_of x)) same in
+    told_as P _ _ (effort old shown) (effort new shown) (effort_over old shown (final_over old.control at)) left h
+
+pub final_tries : (r : Result (Step Record) NoMemory) (shown : Shown) (c d : Counts) (old new : Unioned) → IsFinal old.control → new ≡ with_shell (shell_of new) old → Finishes shown c d r old new → Tries c d (effort old shown) (effort new shown)
+final_tries r shown c d old new at same f = final_effort r (Tries c d) shown c d old new at same f f.tries
+
+pub final_falls : (r : Result (Step Record) NoMemory) (shown : Shown) (c d : Counts) (old new : Unioned) → IsFinal old.control → new ≡ with_shell (shell_of new) old → Finishes shown c d r old new → IfOk r (λ s. Falls s c d (effort old shown) (effort new shown))
+final_falls (Err x) shown c d old new at same f = tt
+final_falls (Ok s) shown c d old new at same f = final_effort (Ok s) (Falls s c d) shown c d old new at same f f.falls
+
+pub final_reads : (r : Unioned) (c d : Counts) → IsFinal r.control → FinalReads r.control c d → MayRead r.control r c d
+final_reads r c d (inl e) reads = subst (λ (x : Control). MayRead x r c d) (sym e) (subst (λ (x : Control). FinalReads x c d) e reads)
+final_reads r c d (inr e) reads = subst (λ (x : Control). MayRead x r c d) (sym e) (subst (λ (x : Control). FinalReads x c d) e reads)
 
 -- the awaited piece was accepted
 pub accepted_piece : (would : ℕ → Facts → Ruling) (state after : ℕ) (mid new : Unioned) (piece sieved : Pieced) (g : Given) → Awaits mid piece → sieved ≡ piece → Answers mid sieved g new → GivesOn would state after sieved g mid new → Awaits mid sieved × GivesOn would state after sieved Accepted mid new

@@ -15,7 +15,8 @@ use Rattle.rv_jscan.specs.Pieces.{Pieced}
 use Rattle.rv_jscan.specs.Steps.{held_next}
 use Rattle.rv_union.specs.Given.{Answers, Awaits}
 use Rattle.rv_union.specs.Rulings.{GivesOn, Obeys, accepted, index_of, joined, lacks, next_member, over, ruled, told, told_scan, was_begun}
-use Rattle.rv_union.specs.Unioned.{Keeps, SameUnion, UnionFits, Unioned, owed, present, rest, scanning}
+use Rattle.rv_union.specs.Unioned.{Keeps, SameUnion, UnionFits, Unioned, owed, present, rest}
+use Rattle.rv_final.specs.Shell.{scanning}
 use Rattle.rv_final.proofs.Givings.{given_holds}
 use Rattle.rv_union.proofs.Fits.{Gathers, begun_lane, last_gathers, passed_found, passed_lane, passed_met}
 use Rattle.rv_union.proofs.Switches.{Stays, dropped_stays, moved_stays, over_as, over_stays, stays_on, told_parts}

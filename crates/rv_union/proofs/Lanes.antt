@@ -17,7 +17,8 @@ use Rattle.rv_jscan.proofs.Kept.{kept_has}
 use Rattle.rv_union.specs.Given.{Awaits, next_id, with_lane}
 use Rattle.rv_union.specs.Rulings.{Completes, IsRuled, Obeys, accepted, facts_of, kept_of, lacks}
 use Rattle.rv_keyset.specs.Sets.{AreApart}
-use Rattle.rv_union.specs.Unioned.{Unioned, present, scanning}
+use Rattle.rv_union.specs.Unioned.{Unioned, present}
+use Rattle.rv_final.specs.Shell.{scanning}
 use Rattle.rv_final.proofs.LaneWork.{kept_few}
 
 -- The lane.

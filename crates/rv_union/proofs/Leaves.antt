@@ -1,7 +1,8 @@
 -- The leaves that a union may still read fall with each leaf read, and no piece and no verdict raises them.
-use Rattle.std.proofs.Common.{◌≡◌, ℕ, ◌+◌, ◌<◌, ◌≤◌, List, [], ◌∷◌, length, drop, Bool, true, false, not, ◌&&◌, refl, ap, sym, ◌∙◌, arith, subst, Option, Some, None, is_some, IfSome, Result, Ok, Err, IfOk, OnErr, inl, inr}
+use Rattle.std.proofs.Common.{◌≡◌, ℕ, ◌+◌, ◌<◌, ◌≤◌, List, [], ◌∷◌, length, drop, Bool, true, false, refl, ap, sym, ◌∙◌, arith, subst, Option, Some, None, IfSome, Result, Ok, Err, IfOk, OnErr, inl, inr}
 use Rattle.std.specs.Prelude.{if◌then◌else◌}
 use Rattle.std.proofs.lemmas.List.{drop_more}
+use Rattle.rv_value.specs.declared.duplicate.NoMemory.{NoMemory}
 use Rattle.rv_value.specs.declared.range.Range.{Range}
 use Rattle.rv_value.specs.declared.record.IndexEntry.{IndexEntry}
 use Rattle.rv_judge.specs.declared.counting.Counts.{Counts}
@@ -33,16 +34,19 @@ use Rattle.rv_jscan.specs.Steps.{HasEntries, held_next}
 use Rattle.rv_union.specs.Given.{Answers, Awaits, TakesLeaf, TakesPiece, count_read, holding, piece_read, reads_leaf}
 use Rattle.rv_union.specs.Leaves.{LeavesFall, held_leaves, lane_leaves, leaves_by, leaves_left, planned_leaves, scanning_leaves}
 use Rattle.rv_union.specs.Rulings.{GivesOn, Obeys, accepted, dropped, facts_of, going_on, joined, listed, next_member, over, ruled}
-use Rattle.rv_union.specs.Unioned.{UnionFits, Unioned, present, scanning}
+use Rattle.rv_union.specs.Unioned.{UnionFits, Unioned, present, shell_of}
+use Rattle.rv_final.specs.Shell.{FinalReads, IsFinal, scanning}
 use Rattle.rv_final.proofs.LaneWork.{none_held}
-use Rattle.rv_union.proofs.Switches.{dropped_leads, drops, is_scanning, listed_leads, over_as, told_parts}
+use Rattle.rv_final.proofs.Shells.{only_scanning, stays_over}
+use Rattle.rv_union.proofs.Finals.{Finishes}
+use Rattle.rv_union.proofs.Switches.{dropped_leads, drops, listed_leads, over_as, told_parts}
 use Rattle.rv_union.proofs.Takes.{took_parts}
 
 left_at : (u : Unioned) (shown : Shown) (c : Control) → u.control ≡ c → leaves_left u shown ≡ leaves_by c (scanning_leaves u shown)
 left_at u shown c e = ap (λ (x : Control). leaves_by x (scanning_leaves u shown)) e
 
 left_scanning : (u : Unioned) (shown : Shown) → scanning u.control ≡ true → leaves_left u shown ≡ scanning_leaves u shown
-left_scanning u shown back = left_at u shown BackgroundAlone (is_scanning u.control back)
+left_scanning u shown back = left_at u shown BackgroundAlone (only_scanning u.control back)
 
 few_left : (c : Control) (n : ℕ) → leaves_by c n ≤ n
 few_left Building n = omega arith
@@ -184,6 +188,17 @@ none_left u shown c e off = left_at u shown c e ∙ none c off
 pub stage_leaves : (one : Counts → Counts) (before after : Counts) (old new : ℕ) → ((c : Counts) → (one c).leaves ≡ c.leaves) → OneAtMost one before after → new ≡ 0 → LeavesFall before after old new
 stage_leaves one before after old new keeps (inl e) none = let same = ap (λ (c : Counts). c.leaves) e in omega arith
 stage_leaves one before after old new keeps (inr e) none = let same = ap (λ (c : Counts). c.leaves) e ∙ keeps before in omega arith
+
+pub final_leaves : (r : Result (Step Record) NoMemory) (shown : Shown) (c d : Counts) (old new : Unioned) → IsFinal old.control → Finishes shown c d r old new → IfOk r (λ s. LeavesFall c d (leaves_left old shown) (leaves_left new shown))
+final_leaves (Err x) shown c d old new at f = tt
+final_leaves (Ok s) shown c d old new at f = by at
+  where
+    none : leaves_left new shown ≡ 0
+    none = none_left new shown new.control refl (stays_over (shell_of old) (shell_of new) at f.moves)
+
+    by : IsFinal old.control → LeavesFall c d (leaves_left old shown) (leaves_left new shown)
+    by (inl e) = stage_leaves record_read c d _ _ (λ x. refl) (subst (λ (x : Control). FinalReads x c d) e f.may_read) none
+    by (inr e) = stage_leaves page_read c d _ _ (λ x. refl) (subst (λ (x : Control). FinalReads x c d) e f.may_read) none
 
 -- the trace's counts do not matter
 pub leaves_if : {E : Type 0} (r : Result (Step Record) E) (before after : Counts) (old : ℕ) (mid new : Unioned) (t : Trace) (shown : Shown) → new ≡ record mid { trace = t } → IfOk r (λ s. LeavesFall before after old (leaves_left mid shown)) → IfOk r (λ s. LeavesFall before after old (leaves_left new shown))

@@ -1,5 +1,5 @@
 -- A union before its first step.
-use Rattle.std.proofs.Common.{◌≡◌, ℕ, ◌+◌, ◌*◌, ◌<◌, ◌≤◌, List, [], ◌∷◌, length, drop, Bool, true, false, ◌&&◌, ◌||◌, refl, ap, sym, ◌∙◌, arith, subst, nat_eq}
+use Rattle.std.proofs.Common.{◌≡◌, ℕ, ◌+◌, ◌*◌, ◌<◌, ◌≤◌, List, [], ◌∷◌, length, drop, Bool, true, false, ◌||◌, refl, ap, sym, ◌∙◌, arith, subst, nat_eq}
 use Rattle.std.proofs.lemmas.Bool.{and_from}
 use Rattle.rv_jscan.proofs.Planned.{index_known}
 use Rattle.rv_final.proofs.Owed.{all_qualifying}
@@ -29,9 +29,7 @@ opened_fits table snap only members cursor opening pages u shown o can some =
     let owed = qualifies_at only (shown.rows table snap) in
     let there : 0 < length members = omega arith in
     let fits : UnionFits (opened table snap only members cursor opening pages u.at u.last) shown = record {
-      ascend = can.ascend;
-      read = can.read;
-      columns = can.columns;
+      shell = record { ascend = can.ascend; read = can.read; columns = can.columns; last = record { of_table = o.last_table; at_snap = o.last_snap; drawn = o.drawn (shown.rows table snap) }; unbegun = λ h. o.unbegun; stands = refl };
       members = can.members;
       there = there;
       lane = begun_lane members owed shown snap 0 can.members there;
@@ -39,9 +37,6 @@ opened_fits table snap only members cursor opening pages u shown o can some =
       covers = λ h. absurd (cc);
       listed = record { met = λ n h. absurd (cc) };
       building = record { met = λ n h. absurd (cc) };
-      last = record { of_table = o.last_table; at_snap = o.last_snap; drawn = o.drawn (shown.rows table snap) };
-      unbegun = λ h. o.unbegun;
-      stands = refl;
     } in
     subst (λ (x : Unioned). UnionFits x shown) (sym o.is) fits
 

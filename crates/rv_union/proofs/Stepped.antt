@@ -1,5 +1,6 @@
 -- What a step does and keeps, and what it reads is counted.
-use Rattle.std.proofs.Common.{◌≡◌, ℕ, ◌≤◌, false, [], refl, ap, sym, ◌∙◌, arith, subst, Result, Ok, Err, IfOk, OnErr}
+use Rattle.std.proofs.Common.{◌≡◌, ℕ, ◌≤◌, List, length, Some, [], refl, ap, sym, ◌∙◌, arith, subst, Result, Ok, Err, IfOk, OnErr}
+use Rattle.rv_value.specs.declared.duplicate.NoMemory.{NoMemory}
 use Rattle.rv_judge.specs.declared.counting.Counts.{Counts}
 use Rattle.rv_judge.specs.declared.events.Control.{Control}
 use Rattle.rv_judge.specs.declared.events.Control.TheVariants.{Done}
@@ -15,16 +16,19 @@ use Rattle.rv_jscan.specs.declared.jscan.Given.{Given}
 use Rattle.rv_jscan.specs.declared.jscan.ScanCounts.{ScanCounts}
 use Rattle.rv_jscan.specs.Pieces.{Pieced}
 use Rattle.rv_final.specs.Rest.{Steps}
+use Rattle.rv_final.specs.Shell.{IsFinal, Shelled}
+use Rattle.rv_final.specs.Stage.{keys_left}
 use Rattle.rv_final.specs.Work.{Falls, Tries}
 use Rattle.rv_union.specs.Effort.{effort, keys_work}
 use Rattle.rv_union.specs.Given.{Answers, TakesLeaf, count_read, holding}
 use Rattle.rv_union.specs.Opened.{Does, DoesAs, DoesStep, EndsIn, MayRead, OnlyTakes, Steady, StepsAs}
-use Rattle.rv_union.specs.Unioned.{UnionFits, Unioned, rest, scanning}
+use Rattle.rv_union.specs.Unioned.{UnionFits, Unioned, rest, shell_of, with_shell}
 use Rattle.rv_union.specs.Rulings.{GivesOn}
 use Rattle.rv_final.proofs.Endings.{counts_raised, ends_by}
-use Rattle.rv_union.proofs.Finals.{done_rest, stage_of, stage_steady}
+use Rattle.rv_final.proofs.Shells.{final_over}
+use Rattle.rv_union.proofs.Finals.{Finishes, done_rest, stage_of, stage_steady}
 use Rattle.rv_union.proofs.Gives.{gives_keep, gives_kin}
-use Rattle.rv_union.proofs.Takes.{none_counted, none_leaves}
+use Rattle.rv_union.proofs.Takes.{none_counted}
 use Rattle.rv_union.proofs.Tellings.{gives_tell}
 
 -- A step that takes a piece and gives it.
@@ -93,18 +97,17 @@ only_took old mid t = record {
   fewer = subst (λ (n : ℕ). n ≤ keys_work old) (sym (ap keys_work t.same)) (omega arith);
 }
 
--- no piece is awaited
-pub only_itself : (r : Unioned) → scanning r.control ≡ false → OnlyTakes r r
-only_itself r off = only_took r r (none_leaves r off)
-
 -- keys may have been passed
-pub only_at_keys : (old new : Unioned) (c d : Counts) → scanning old.control ≡ false → new ≡ record old { at = new.at } → Tries c d (keys_work old) (keys_work new) → OnlyTakes old new
-only_at_keys old new c d off e t = record {
-  same = subst (λ (x : Unioned). x ≡ record (holding x.lane.held old) { count = count_read old; at = x.at; trace = x.trace }) (sym e) (ap (λ (c : ScanCounts). record old { count = c; at = new.at }) (sym (none_counted old off)));
-  named = ap (λ (x : Unioned). x.trace.strategy) e;
-  events = ap (λ (x : Unioned). x.trace.events) e;
-  fewer = t.less;
-}
+pub only_passed : (r : Result (Step Record) NoMemory) (shown : Shown) (c d : Counts) (old new : Unioned) → IsFinal old.control → new ≡ with_shell (shell_of new) old → Finishes shown c d r old new → OnErr r (OnlyTakes old new)
+only_passed (Ok s) shown c d old new at same f = tt
+only_passed (Err x) shown c d old new at same f =
+    let e : new ≡ record old { at = new.at } = same ∙ ap (λ (s : Shelled). with_shell s old) f.still.same in
+    record {
+      same = subst (λ (x : Unioned). x ≡ record (holding x.lane.held old) { count = count_read old; at = x.at; trace = x.trace }) (sym e) (ap (λ (c : ScanCounts). record old { count = c; at = new.at }) (sym (none_counted old (final_over old.control at))));
+      named = ap (λ (x : Unioned). x.trace.strategy) e;
+      events = ap (λ (x : Unioned). x.trace.events) e;
+      fewer = subst (λ (keys : List ℕ). length (keys_left (Some keys) new.at) ≤ keys_work old) (sym (ap (λ (x : Unioned). x.keys) same)) f.still.fewer;
+    }
 
 -- what was read is counted
 pub only_counted : {X E : Type 0} (x : Result X E) (old mid new : Unioned) (c d : Counts) → new ≡ record mid { trace = counted mid.trace c d } → OnErr x (OnlyTakes old mid) → OnErr x (OnlyTakes old new)

@@ -5,7 +5,7 @@ use Rattle.std.proofs.lemmas.Bool.{ltb-true, ltb-false}
 use Rattle.rv_value.proofs.Tests.{no_way}
 use Rattle.rv_keylist.specs.Keys.{has_key}
 use Rattle.rv_judge.specs.declared.events.Control.{Control}
-use Rattle.rv_judge.specs.declared.events.Control.TheVariants.{Building, ForegroundAlone, BackgroundAlone, FinalList, FinalTable, Done}
+use Rattle.rv_judge.specs.declared.events.Control.TheVariants.{BackgroundAlone, FinalList, FinalTable}
 use Rattle.rv_judge.specs.declared.events.Event.TheVariants.{Scan}
 use Rattle.rv_judge.specs.declared.events.Happening.TheVariants.{ScanEnded, Ruled}
 use Rattle.rv_judge.specs.declared.events.Strategy.TheVariants.{Union}
@@ -21,27 +21,19 @@ use Rattle.rv_final.specs.Rest.{rest_by}
 use Rattle.rv_final.specs.Stage.{LastFits, Unbegun}
 use Rattle.rv_final.proofs.Endings.{list_whole, table_whole}
 use Rattle.rv_union.specs.Rulings.{dropped, forgotten, going_on, has_next, index_of, listed, next_member, over, told, told_scan, was_begun}
-use Rattle.rv_union.specs.Unioned.{AreMet, Covers, UnionFits, Unioned, builds, found, left_by, meets_any, of_union, owed, rest, rows_of, scanning}
+use Rattle.rv_union.specs.Unioned.{AreMet, Covers, UnionFits, Unioned, builds, found, meets_any, owed, rest, rows_of}
+use Rattle.rv_final.specs.Shell.{left_by, scanning, unfronted}
+use Rattle.rv_final.proofs.Shells.{only_scanning}
 use Rattle.rv_union.proofs.Fits.{Gathers, begun_lane, next_met, none_met}
-
-pub is_scanning : (c : Control) → scanning c ≡ true → c ≡ BackgroundAlone
-is_scanning Building h = absurd (cc)
-is_scanning ForegroundAlone h = absurd (cc)
-is_scanning BackgroundAlone h = refl
-is_scanning FinalList h = absurd (cc)
-is_scanning FinalTable h = absurd (cc)
-is_scanning Done h = absurd (cc)
 
 -- each row that qualifies is owed while members are scanned
 pub rest_scanning : (u : Unioned) (shown : Shown) → scanning u.control ≡ true → rest u shown ≡ rest_by (λ n. true) u.only (rows_of u shown)
-rest_scanning u shown h = ap (λ (c : Control). rest_by (left_by c u.keys u.at u.last (rows_of u shown)) u.only (rows_of u shown)) (is_scanning u.control h)
+rest_scanning u shown h = ap (λ (c : Control). rest_by (left_by c (Some u.keys) u.at u.last (rows_of u shown)) u.only (rows_of u shown)) (only_scanning u.control h)
 
 -- the fit, where the control, the final stage's parts and the trace are other ones
-pub aside_fits : (u : Unioned) (c : Control) (at : ℕ) (last : Place) (t : Trace) (shown : Shown) → LastFits u.table u.snap last shown → (scanning c ≡ true → Unbegun at last) → (scanning c ≡ true → (n : ℕ) → owed u shown n ≡ true → found u shown n ≡ true) → (c ≡ FinalList → Covers (owed u shown) u.keys) → of_union c ≡ true → UnionFits u shown → UnionFits (record u { control = c; at = at; last = last; trace = t }) shown
+pub aside_fits : (u : Unioned) (c : Control) (at : ℕ) (last : Place) (t : Trace) (shown : Shown) → LastFits u.table u.snap last shown → (scanning c ≡ true → Unbegun at last) → (scanning c ≡ true → (n : ℕ) → owed u shown n ≡ true → found u shown n ≡ true) → (c ≡ FinalList → Covers (owed u shown) u.keys) → unfronted c ≡ true → UnionFits u shown → UnionFits (record u { control = c; at = at; last = last; trace = t }) shown
 aside_fits u c at last t shown l unbegun finds covers stands f = record {
-  ascend = f.ascend;
-  read = f.read;
-  columns = f.columns;
+  shell = record { ascend = f.shell.ascend; read = f.shell.read; columns = f.shell.columns; last = l; unbegun = unbegun; stands = stands };
   members = f.members;
   there = f.there;
   lane = f.lane;
@@ -49,9 +41,6 @@ aside_fits u c at last t shown l unbegun finds covers stands f = record {
   covers = covers;
   listed = f.listed;
   building = f.building;
-  last = l;
-  unbegun = unbegun;
-  stands = stands;
 }
 
 -- WHILE MEMBERS ARE SCANNED
@@ -71,9 +60,7 @@ pub record PartsFit (u new : Unioned) (shown : Shown) : Type 0 where
 pub moved_fits : (u new : Unioned) (shown : Shown) → new ≡ with_parts u new → scanning u.control ≡ true → UnionFits u shown → PartsFit u new shown → UnionFits new shown
 moved_fits u new shown e back f p =
     let fits : UnionFits (with_parts u new) shown = record {
-      ascend = f.ascend;
-      read = f.read;
-      columns = f.columns;
+      shell = record { ascend = f.shell.ascend; read = f.shell.read; columns = f.shell.columns; last = f.shell.last; unbegun = f.shell.unbegun; stands = f.shell.stands };
       members = f.members;
       there = p.there;
       lane = p.lane;
@@ -81,9 +68,6 @@ moved_fits u new shown e back f p =
       covers = λ h. absurd (let bad : true ≡ false = sym back ∙ ap scanning h in cc);
       listed = p.listed;
       building = p.building;
-      last = f.last;
-      unbegun = f.unbegun;
-      stands = f.stands;
     } in
     subst (λ (x : Unioned). UnionFits x shown) (sym e) fits
 
@@ -108,16 +92,14 @@ same_parts u shown back f = record { there = f.there; lane = f.lane; finds = f.f
 
 to_list : (u : Unioned) (t : Trace) (shown : Shown) → scanning u.control ≡ true → Covers (owed u shown) u.keys → UnionFits u shown → Stays u shown (record u { control = FinalList; trace = t })
 to_list u t shown back c f = (
-  aside_fits u FinalList u.at u.last t shown f.last (λ h. no_way (sym h)) (λ h. no_way (sym h)) (λ h. c) refl f,
-  list_whole u.only (rows_of u shown) (Some u.keys) u.at u.last (f.unbegun back) (λ n q. c n q) ∙ sym (rest_scanning u shown back),
+  aside_fits u FinalList u.at u.last t shown f.shell.last (λ h. no_way (sym h)) (λ h. no_way (sym h)) (λ h. c) refl f,
+  list_whole u.only (rows_of u shown) (Some u.keys) u.at u.last (f.shell.unbegun back) (λ n q. c n q) ∙ sym (rest_scanning u shown back),
 )
 
 to_table : (u : Unioned) (t : Trace) (shown : Shown) → scanning u.control ≡ true → UnionFits u shown → Stays u shown (record (forgotten u) { control = FinalTable; trace = t })
 to_table u t shown back f = (
   record {
-    ascend = f.ascend;
-    read = f.read;
-    columns = f.columns;
+    shell = record { ascend = f.shell.ascend; read = f.shell.read; columns = f.shell.columns; last = f.shell.last; unbegun = λ h. absurd (cc); stands = refl };
     members = f.members;
     there = f.there;
     lane = begun_lane u.plans (owed u shown) shown u.snap u.member f.members f.there;
@@ -125,17 +107,14 @@ to_table u t shown back f = (
     covers = λ h. absurd (cc);
     listed = record { met = λ n h. absurd (cc) };
     building = record { met = λ n h. absurd (cc) };
-    last = f.last;
-    unbegun = λ h. absurd (cc);
-    stands = refl;
   },
-  table_whole u.only (rows_of u shown) u.at u.last (f.unbegun back) ∙ sym (rest_scanning u shown back),
+  table_whole u.only (rows_of u shown) u.at u.last (f.shell.unbegun back) ∙ sym (rest_scanning u shown back),
 )
 
 -- where happenings lead
 
 pub listed_leads : (u : Unioned) → scanning u.control ≡ true → next_control Union u.control (ScanEnded false true) ≡ FinalList
-listed_leads u back = ap (λ (c : Control). next_control Union c (ScanEnded false true)) (is_scanning u.control back)
+listed_leads u back = ap (λ (c : Control). next_control Union c (ScanEnded false true)) (only_scanning u.control back)
 
 -- the verdicts that drop a union
 abbrev pub drops : Verdict → Bool
@@ -151,7 +130,7 @@ dropped_at AbandonForeground d = absurd (cc)
 dropped_at AbandonBackground d = refl
 
 pub dropped_leads : (u : Unioned) (v : Verdict) → drops v ≡ true → scanning u.control ≡ true → next_control Union u.control (Ruled v false false) ≡ FinalTable
-dropped_leads u v d back = ap (λ (c : Control). next_control Union c (Ruled v false false)) (is_scanning u.control back) ∙ dropped_at v d
+dropped_leads u v d back = ap (λ (c : Control). next_control Union c (Ruled v false false)) (only_scanning u.control back) ∙ dropped_at v d
 
 pub dropped_stays : (u : Unioned) (v : Verdict) (shown : Shown) → drops v ≡ true → scanning u.control ≡ true → UnionFits u shown → Stays u shown (dropped v u)
 dropped_stays u v shown d back f = subst (λ (c : Control). Stays u shown (record (forgotten u) { control = c; trace = (dropped v u).trace })) (sym (dropped_leads u v d back)) (to_table u (dropped v u).trace shown back f)

@@ -14,7 +14,8 @@ use Rattle.rv_jscan.specs.Pieces.{Pieced}
 use Rattle.rv_jscan.specs.Steps.{leaf_counted}
 use Rattle.rv_union.specs.Given.{Awaits, TakesLeaf, awaited, count_read, holding, next_id, piece_read, with_lane}
 use Rattle.rv_union.specs.Opened.{Steady}
-use Rattle.rv_union.specs.Unioned.{UnionFits, Unioned, SameUnion, present, scanning, rest}
+use Rattle.rv_union.specs.Unioned.{UnionFits, Unioned, SameUnion, present, rest}
+use Rattle.rv_final.specs.Shell.{scanning}
 use Rattle.rv_union.specs.Runs.{Tells}
 use Rattle.rv_final.proofs.Takings.{held_if, none_unread, once_read}
 use Rattle.rv_union.proofs.Switches.{aside_fits, moved_fits}
@@ -120,7 +121,7 @@ took_steady old new shown t e f = record {
 -- What was read is counted.
 
 pub counted_fits : (mid new : Unioned) (t : Trace) (shown : Shown) → new ≡ record mid { trace = t } → UnionFits mid shown → UnionFits new shown
-counted_fits mid new t shown e f = subst (λ (x : Unioned). UnionFits x shown) (sym e) (aside_fits mid mid.control mid.at mid.last t shown f.last f.unbegun f.finds f.covers f.stands f)
+counted_fits mid new t shown e f = subst (λ (x : Unioned). UnionFits x shown) (sym e) (aside_fits mid mid.control mid.at mid.last t shown f.shell.last f.shell.unbegun f.finds f.covers f.shell.stands f)
 
 pub counted_tells : (mid new : Unioned) (c d : Counts) → new ≡ record mid { trace = counted mid.trace c d } → Tells mid → Tells new
 counted_tells mid new c d e t = subst Tells (sym e) (aside_tells mid (record mid { trace = counted mid.trace c d }) refl refl refl refl refl t)

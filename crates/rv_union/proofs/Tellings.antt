@@ -1,5 +1,5 @@
 -- A union's trace goes on telling of it, with each piece, each end of a member and each verdict.
-use Rattle.std.proofs.Common.{◌≡◌, ◌∙◌, ℕ, ◌+◌, ◌<◌, ◌≤◌, List, [], ◌∷◌, ◌++◌, Bool, true, false, ◌||◌, Option, Some, None, length, map, nat_eq, refl, ap, sym, subst, arith, append_assoc, append-nil, length-append, suc, inl, inr, Result, Ok, Err, IfOk, OnErr}
+use Rattle.std.proofs.Common.{◌≡◌, ◌∙◌, ℕ, ◌+◌, ◌<◌, ◌≤◌, List, [], ◌∷◌, ◌++◌, Bool, true, false, ◌||◌, Option, Some, None, length, map, nat_eq, refl, ap, sym, subst, arith, append_assoc, append-nil, length-append, inl, inr, Result, Ok, Err, IfOk, OnErr}
 use Rattle.std.specs.Prelude.{if◌then◌else◌}
 use Rattle.std.specs.List.{list_all, list_any}
 use Rattle.std.proofs.lemmas.List.{length-map, map-append}
@@ -35,8 +35,8 @@ use Rattle.rv_union.specs.Given.{Answers, TakesPiece}
 use Rattle.rv_union.specs.Rulings.{GivesOn, Obeys, accepted, dropped, going_on, gone, index_of, joined, listed, next_member, over, ruled, told, was_begun}
 use Rattle.rv_jscan.specs.Planned.{indexes_of}
 use Rattle.rv_union.specs.Runs.{IsOfUndropped, OfFewIndexes, Tells, is_drop, tail_control}
-use Rattle.rv_union.specs.Unioned.{Unioned, present, scanning}
-use Rattle.rv_final.specs.Shell.{IsFinal}
+use Rattle.rv_union.specs.Unioned.{Unioned, present}
+use Rattle.rv_final.specs.Shell.{scanning, IsFinal}
 use Rattle.rv_final.proofs.Endings.{final_done}
 use Rattle.rv_final.proofs.Givings.{given_holds}
 use Rattle.rv_union.proofs.Few.{all_among, few, once_push, pushed_there, some_index}

@@ -12,7 +12,8 @@ use Rattle.rv_jscan.specs.declared.jscan.Taken.TheVariants.{Piece, Nothing}
 use Rattle.rv_jscan.specs.Lanes.{IsOwn, Laned}
 use Rattle.rv_jscan.specs.Pieces.{Pieced}
 use Rattle.rv_jscan.specs.Steps.{leaf_counted}
-use Rattle.rv_union.specs.Unioned.{Unioned, present, scanning}
+use Rattle.rv_union.specs.Unioned.{Unioned, present}
+use Rattle.rv_final.specs.Shell.{scanning}
 
 -- the id of the next piece
 abbrev pub next_id : Unioned → PieceId

@@ -5,13 +5,11 @@ use Rattle.rv_value.specs.declared.record.Record.{Record}
 use Rattle.rv_judge.specs.declared.counting.Counts.{Counts}
 use Rattle.rv_judge.specs.declared.events.Control.{Control}
 use Rattle.rv_judge.specs.declared.events.Control.TheVariants.{Building, ForegroundAlone, BackgroundAlone, FinalList, FinalTable, Done}
-use Rattle.rv_judge.specs.declared.events.Event.TheVariants.{At, Scan}
 use Rattle.rv_judge.specs.declared.events.Happening.TheVariants.{FinalEnded}
 use Rattle.rv_judge.specs.declared.events.Strategy.TheVariants.{Union}
-use Rattle.rv_judge.specs.declared.events.Trace.{Trace}
 use Rattle.rv_judge.specs.declared.judging.Facts.{Facts}
 use Rattle.rv_judge.specs.Counting.{page_read, record_read}
-use Rattle.rv_judge.specs.Tracing.{SameCounts, counted, new_trace, noted}
+use Rattle.rv_judge.specs.Tracing.{SameCounts, counted}
 use Rattle.rv_judge.specs.Verdicts.{Ruling}
 use Rattle.rv_restrict.specs.declared.atom.Atom.{Atom}
 use Rattle.rv_reader.specs.Shown.{Shown, CanRead}
@@ -26,6 +24,7 @@ use Rattle.rv_jscan.specs.Joint.{no_counts, plan_at}
 use Rattle.rv_jscan.specs.Lanes.{no_lane}
 use Rattle.rv_jscan.specs.Pieces.{Pieced}
 use Rattle.rv_final.specs.Rest.{Steps, qualifies_at}
+use Rattle.rv_final.specs.Shell.{EndsAt, first_trace}
 use Rattle.rv_final.specs.Stage.{FetchesKey, Unbegun, first_key}
 use Rattle.rv_final.specs.Work.{Falls}
 use Rattle.rv_union.specs.Effort.{keys_work}
@@ -41,10 +40,6 @@ pub record CanUnite (table snap : ℕ) (only : List (List Atom)) (plans : List S
   pub columns : HaveColumns only (shown.rows table snap)
   pub members : MembersFit plans (qualifies_at only (shown.rows table snap)) shown snap
   pub few : OfFewIndexes plans
-
--- a union's trace begins with the control and the first member's index
-abbrev pub first_trace : List ScanPlan → Trace
-first_trace members = noted (noted (new_trace Union) (At BackgroundAlone)) (Scan (plan_at members 0).index)
 
 -- before the first piece, over a table of so many pages
 abbrev pub opened : ℕ → ℕ → List (List Atom) → List ScanPlan → ℕ → ℕ → ℕ → ℕ → Place → Unioned
@@ -64,7 +59,7 @@ opened table snap only members cursor opening pages at last = record {
   guaranteed = pages;
   at = at;
   last = last;
-  trace = first_trace members;
+  trace = first_trace Union (plan_at members 0).index;
 }
 
 -- A UNION THAT WAS OPENED: it has read nothing, also not of its final stage
@@ -90,9 +85,7 @@ DoesStep old new shown scanned = (need : List ℕ) → Steps need [] scanned (re
 
 -- an end leads to the last control
 abbrev pub EndsIn : Unioned → Step Record → Type 0
-EndsIn u (Row record_found) = Unit {0}
-EndsIn u Working = Unit {0}
-EndsIn u End = u.control ≡ Done
+EndsIn u scanned = EndsAt u.control scanned
 
 -- a source at its end leads to the last control
 abbrev pub ended_by : Step Record → Unioned → Unioned

@@ -1,24 +1,22 @@
 -- A union as contracts see it, and the records that it still owes.
-use Rattle.std.specs.Prelude.{◌≡◌, ℕ, ◌+◌, ◌<◌, Bool, true, false, ◌||◌, List, length, drop, Some, None}
+use Rattle.std.specs.Prelude.{◌≡◌, ℕ, ◌+◌, ◌<◌, Bool, true, ◌||◌, List, length, drop, Some}
 use Rattle.std.specs.List.{list_any}
 use Rattle.rv_value.specs.declared.record.Record.{Record}
-use Rattle.rv_rows.specs.Rows.{Ascend}
 use Rattle.rv_keylist.specs.Keys.{has_key}
 use Rattle.rv_keyset.specs.Sets.{AreApart}
 use Rattle.rv_judge.specs.declared.events.Control.{Control}
-use Rattle.rv_judge.specs.declared.events.Control.TheVariants.{Building, ForegroundAlone, BackgroundAlone, FinalList, FinalTable, Done}
+use Rattle.rv_judge.specs.declared.events.Control.TheVariants.{FinalList}
 use Rattle.rv_judge.specs.declared.events.Trace.{Trace}
 use Rattle.rv_restrict.specs.declared.atom.Atom.{Atom}
-use Rattle.rv_reader.specs.Shown.{Shown, CanRead}
-use Rattle.rv_scan.specs.Due.{HaveColumns}
+use Rattle.rv_reader.specs.Shown.{Shown}
 use Rattle.rv_scan.specs.Places.{Place}
 use Rattle.rv_jscan.specs.declared.jscan.ScanPlan.{ScanPlan}
 use Rattle.rv_jscan.specs.declared.jscan.ScanCounts.{ScanCounts}
 use Rattle.rv_jscan.specs.Entries.{Apart, has_entry}
 use Rattle.rv_jscan.specs.Joint.{CanMake, meets, passing, plan_at}
 use Rattle.rv_jscan.specs.Lanes.{LaneFits, Laned}
-use Rattle.rv_final.specs.Rest.{qualifies_at, rest_by}
-use Rattle.rv_final.specs.Stage.{LastFits, Unbegun, list_left, table_left}
+use Rattle.rv_final.specs.Rest.{qualifies_at}
+use Rattle.rv_final.specs.Shell.{ShellFits, Shelled, rest as rest_left, scanning}
 use Rattle.rv_final.specs.LaneWork.{ahead}
 
 -- Everything that a union keeps. `plans` are its members, which never change; `member` is the position of the present
@@ -52,43 +50,19 @@ pub record IsUnion (plans : List ScanPlan) (member : ℕ) (lane : Laned) (keys :
 abbrev pub present : Unioned → ScanPlan
 present u = plan_at u.plans u.member
 
--- whether members are scanned
-abbrev pub scanning : Control → Bool
-scanning Building = false
-scanning ForegroundAlone = false
-scanning BackgroundAlone = true
-scanning FinalList = false
-scanning FinalTable = false
-scanning Done = false
+-- what stands around its scans
+abbrev pub shell_of : Unioned → Shelled
+shell_of u = record { control = u.control; at = u.at; last = u.last; trace = u.trace }
 
--- the controls of a union, which has no foreground
-abbrev pub of_union : Control → Bool
-of_union Building = false
-of_union ForegroundAlone = false
-of_union BackgroundAlone = true
-of_union FinalList = true
-of_union FinalTable = true
-of_union Done = true
+abbrev pub with_shell : Shelled → Unioned → Unioned
+with_shell s u = record u { control = s.control; at = s.at; last = s.last; trace = s.trace }
 
 abbrev pub rows_of : Unioned → Shown → List Record
 rows_of u shown = shown.rows u.table u.snap
 
--- whether a row is still to be given, if it qualifies: each one while members are scanned, then those of the keys
--- left of the list, or on the pages left of the table
-abbrev pub left_by : Control → List ℕ → ℕ → Place → List Record → ℕ → Bool
-left_by Building keys at last rows n = false
-left_by ForegroundAlone keys at last rows n = false
-left_by BackgroundAlone keys at last rows n = true
-left_by FinalList keys at last rows n = list_left (Some keys) None at n
-left_by FinalTable keys at last rows n = table_left last rows None n
-left_by Done keys at last rows n = false
-
-abbrev pub left_at : Unioned → Shown → ℕ → Bool
-left_at u shown n = left_by u.control u.keys u.at u.last (rows_of u shown) n
-
 -- THE REST: the records of the snapshot that qualify and are still to be given, in ascending row number
 abbrev pub rest : Unioned → Shown → List Record
-rest u shown = rest_by (left_at u shown) u.only (rows_of u shown)
+rest u shown = rest_left u.only (rows_of u shown) (Some u.keys) (shell_of u)
 
 -- a row of this number qualifies
 abbrev pub owed : Unioned → Shown → ℕ → Bool
@@ -125,9 +99,7 @@ pub record AreMet (keys : List ℕ) (plans : List ScanPlan) (shown : Shown) (sna
 
 -- WHAT IT HOLDS WAS DRAWN FROM WHAT A READER SHOWS, and the reader can be read as it will be.
 pub record UnionFits (u : Unioned) (shown : Shown) : Type 0 where
-  pub ascend : Ascend (rows_of u shown)
-  pub read : CanRead shown u.table u.snap
-  pub columns : HaveColumns u.only (rows_of u shown)
+  pub shell : ShellFits u.table u.snap u.only shown (shell_of u)
   pub members : MembersFit u.plans (owed u shown) shown u.snap
   pub there : u.member < length u.plans
   pub lane : LaneFits (present u) shown u.snap u.lane
@@ -135,9 +107,6 @@ pub record UnionFits (u : Unioned) (shown : Shown) : Type 0 where
   pub covers : u.control ≡ FinalList → Covers (owed u shown) u.keys
   pub listed : AreMet u.keys u.plans shown u.snap
   pub building : AreMet u.lane.building u.plans shown u.snap
-  pub last : LastFits u.table u.snap u.last shown
-  pub unbegun : scanning u.control ≡ true → Unbegun u.at u.last
-  pub stands : of_union u.control ≡ true
 
 -- WHAT EVERY CALL KEEPS: what is asked, the members and the names of the pieces
 pub record SameUnion (old new : Unioned) : Type 0 where

@@ -1,7 +1,5 @@
-ghost use Rattle.std.specs.Prelude.{◌≡◌, ℕ, IfOk, OnErr, Ok};
+ghost use Rattle.std.specs.Prelude.{◌≡◌, IfOk, OnErr, Ok};
 ghost use Rattle.rv_judge.specs.Tracing.{CountsRise};
-ghost use Rattle.rv_judge.specs.declared.judging.Facts.{Facts};
-ghost use Rattle.rv_judge.specs.Verdicts.{Ruling};
 ghost use Rattle.rv_final.specs.Work.{Falls, Tries};
 ghost use Rattle.rv_final.specs.LaneWork.{Spends};
 ghost use Rattle.rv_union.specs.Effort.{effort};
@@ -12,7 +10,7 @@ ghost use Rattle.rv_union.specs.Runs.{Tells};
 
 use crate::uniting::Union;
 use rv_jscan::{Taken, sieve};
-use rv_judge::{Control, Happening, Judge, Steps};
+use rv_judge::{Control, Judge, Steps};
 use rv_reader::{Reader, Step};
 use rv_value::{NoMemory, Record};
 
@@ -49,64 +47,6 @@ impl Union {
         }
     }
 
-    /// A step of the final stage over the list that the members made.
-    fn list_step<R: Reader>(
-        &mut self,
-        reader: &R,
-        steps: &mut Steps<R::Ledger>,
-    ) -> Result<Step<Record>, NoMemory>
-        requires control { self.old.control ≡ Control.FinalList }
-        requires fits { UnionFits self.old (R.shown reader.now) }
-        ensures does { (rules : ℕ → Facts → Ruling) (stands : ℕ) → IfOk result (λ s. Does rules stands stands (R.shown reader.now) steps.old steps.new s self.old self.new) }
-        ensures steady { Steady self.old self.new (R.shown reader.now) }
-        ensures step { IfOk result (DoesStep self.old self.new (R.shown reader.now)) }
-        ensures ends { IfOk result (EndsIn self.new) }
-        ensures err { OnErr result (rest self.new (R.shown reader.now) ≡ rest self.old (R.shown reader.now)) }
-        ensures still { OnErr result (OnlyTakes self.old self.new) }
-        ensures may_read { MayRead self.old.control self.old steps.old steps.new }
-        ensures tries { Tries steps.old steps.new (effort self.old (R.shown reader.now)) (effort self.new (R.shown reader.now)) }
-        ensures nearer { IfOk result (λ s. LeavesFall steps.old steps.new (leaves_left self.old (R.shown reader.now)) (leaves_left self.new (R.shown reader.now))) }
-        ensures falls { IfOk result (λ s. Falls s steps.old steps.new (effort self.old (R.shown reader.now)) (effort self.new (R.shown reader.now))) }
-    {
-        match self.scan_list(reader, steps)? {
-            Step::Row(row) => Ok(Step::Row(row)),
-            Step::Working => Ok(Step::Working),
-            Step::End => {
-                self.go(Happening::FinalEnded);
-                Ok(Step::End)
-            }
-        }
-    }
-
-    /// A step of the final scan of the table.
-    fn table_step<R: Reader>(
-        &mut self,
-        reader: &R,
-        steps: &mut Steps<R::Ledger>,
-    ) -> Result<Step<Record>, NoMemory>
-        requires control { self.old.control ≡ Control.FinalTable }
-        requires fits { UnionFits self.old (R.shown reader.now) }
-        ensures does { (rules : ℕ → Facts → Ruling) (stands : ℕ) → IfOk result (λ s. Does rules stands stands (R.shown reader.now) steps.old steps.new s self.old self.new) }
-        ensures steady { Steady self.old self.new (R.shown reader.now) }
-        ensures step { IfOk result (DoesStep self.old self.new (R.shown reader.now)) }
-        ensures ends { IfOk result (EndsIn self.new) }
-        ensures err { OnErr result (rest self.new (R.shown reader.now) ≡ rest self.old (R.shown reader.now)) }
-        ensures still { OnErr result (OnlyTakes self.old self.new) }
-        ensures may_read { MayRead self.old.control self.old steps.old steps.new }
-        ensures tries { Tries steps.old steps.new (effort self.old (R.shown reader.now)) (effort self.new (R.shown reader.now)) }
-        ensures nearer { IfOk result (λ s. LeavesFall steps.old steps.new (leaves_left self.old (R.shown reader.now)) (leaves_left self.new (R.shown reader.now))) }
-        ensures falls { IfOk result (λ s. Falls s steps.old steps.new (effort self.old (R.shown reader.now)) (effort self.new (R.shown reader.now))) }
-    {
-        match self.scan_last(reader, steps)? {
-            Step::Row(found) => Ok(Step::Row(found)),
-            Step::Working => Ok(Step::Working),
-            Step::End => {
-                self.go(Happening::FinalEnded);
-                Ok(Step::End)
-            }
-        }
-    }
-
     /// What a step does, before what it read is counted.
     fn stage_step<R: Reader>(
         &mut self,
@@ -131,8 +71,7 @@ impl Union {
     {
         match self.control() {
             Control::BackgroundAlone => self.background_step(reader, judge, steps),
-            Control::FinalList => self.list_step(reader, steps),
-            Control::FinalTable => self.table_step(reader, steps),
+            Control::FinalList | Control::FinalTable => self.final_step(reader, steps),
             Control::Done => Ok(Step::End),
             Control::Building | Control::ForegroundAlone => unreachable!(),
         }

@@ -6,7 +6,8 @@ ghost use Rattle.rv_union.specs.Effort.{effort};
 ghost use Rattle.rv_union.specs.Leaves.{LeavesFall, leaves_left};
 ghost use Rattle.rv_union.specs.Given.{Awaits, TakesLeaf, TakesPiece, awaited, count_read, piece_read};
 ghost use Rattle.rv_union.specs.Runs.{IsOfUndropped, Tells};
-ghost use Rattle.rv_union.specs.Unioned.{SameUnion, UnionFits, rest, scanning};
+ghost use Rattle.rv_union.specs.Unioned.{SameUnion, UnionFits, rest};
+ghost use Rattle.rv_final.specs.Shell.{scanning};
 
 use crate::uniting::Union;
 use rv_jscan::{Piece, Taken};

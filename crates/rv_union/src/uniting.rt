@@ -1,29 +1,26 @@
 ghost use Rattle.std.specs.Prelude.{⊤, ◌≡◌, ◌+◌, ◌<◌, ◌≤◌, ◌++◌, ◌^◌, ℕ, List, Some, None, [], true, false, not, is_some, length, min, IfOk, IsPermutation, IsTrue, OnErr, OnOk, ◌↔◌};
 ghost use Rattle.std.specs.List.Sorted.{IsStrictlyIncreasing};
-ghost use Rattle.rv_judge.specs.Counting.{one_more, page_read, record_read};
+ghost use Rattle.rv_judge.specs.Counting.{one_more};
 ghost use Rattle.rv_judge.specs.Runs.{Allowed};
 ghost use Rattle.rv_judge.specs.Tracing.{counted, noted};
-ghost use Rattle.rv_scan.specs.Places.{PageReads, PageTurns};
-ghost use Rattle.rv_scan.specs.Reads.{OneAtMost};
 ghost use Rattle.rv_jscan.specs.Joint.{CanMake, no_counts, plan_at};
 ghost use Rattle.rv_jscan.specs.Lanes.{IsOwn, LaneFits, leaf_once, passed};
 ghost use Rattle.rv_jscan.specs.Steps.{held_next, leaf_counted, piece_counted};
-ghost use Rattle.rv_final.specs.Rest.{StepMarks, qualifying};
-ghost use Rattle.rv_final.specs.Stage.{FetchesKey, LastFits, PassesKeys, first_key, list_left, table_left};
-ghost use Rattle.rv_final.specs.Work.{Falls, Tries};
-ghost use Rattle.rv_union.specs.Effort.{effort, keys_work, life_of, table_work};
+ghost use Rattle.rv_final.specs.Rest.{qualifying};
+ghost use Rattle.rv_union.specs.Effort.{effort, life_of};
 ghost use Rattle.rv_union.specs.Leaves.{leaves_left, planned_leaves};
 ghost use Rattle.rv_union.specs.Given.{Awaits, awaited, count_read, next_id, with_lane};
 ghost use Rattle.rv_union.specs.Opened.{CanUnite, Opened};
 ghost use Rattle.rv_union.specs.Rulings.{facts_of, forgotten, gone, has_next, index_of, joined, lacks, next_member, position, told, was_begun};
 ghost use Rattle.rv_jscan.specs.Planned.{indexes_of};
 ghost use Rattle.rv_union.specs.Runs.{Tells};
-ghost use Rattle.rv_union.specs.Unioned.{UnionFits, present, rest, rows_of, scanning};
+ghost use Rattle.rv_union.specs.Unioned.{UnionFits, present, rest, shell_of, with_shell};
+ghost use Rattle.rv_final.specs.Shell.{FinalStep, IsFinal, scanning};
 
 use crate::joining::add_lane;
-use rv_final::Final;
+use rv_final::Shell;
 use rv_jscan::{Admits, Lane, Piece, PieceId, ScanCounts, ScanPlan, Sieved};
-use rv_judge::{Control, Counts, Event, Facts, Happening, Steps, Strategy, Trace, course, project};
+use rv_judge::{Control, Counts, Event, Facts, Happening, Steps, Strategy, Trace, project};
 use rv_keylist::KeyList;
 use rv_keyset::KeySet;
 use rv_reader::{Reader, Step};
@@ -51,10 +48,8 @@ pub struct Union {
     count: ScanCounts,
     number: u64,
     keys: KeySet,
-    control: Control,
     guaranteed: u64,
-    ending: Final,
-    trace: Trace,
+    shell: Shell,
 }
 
 impl Model for Union {
@@ -62,7 +57,7 @@ impl Model for Union {
 
     ghost Value = { Unioned };
 
-    ghost view = { λ u. record { table = u.table; snap = u.snap; cursor = u.cursor; opening = u.opening; only = u.only; plans = u.plans.items; member = u.member; lane = u.lane; count = u.count; number = u.number; keys = u.keys.keys; control = u.control; guaranteed = u.guaranteed; at = u.ending.at; last = u.ending.last; trace = u.trace } };
+    ghost view = { λ u. record { table = u.table; snap = u.snap; cursor = u.cursor; opening = u.opening; only = u.only; plans = u.plans.items; member = u.member; lane = u.lane; count = u.count; number = u.number; keys = u.keys.keys; control = u.shell.control; guaranteed = u.guaranteed; at = u.shell.at; last = u.shell.last; trace = u.shell.trace } };
 
     ghost invariant = { λ u. IsUnion u.plans.items u.member u.lane u.keys.keys };
 }
@@ -154,10 +149,7 @@ impl Union {
         ensures { Opened table snap only members.items cursor opening pages result }
     {
         let first = plan_in(&members, 0).index;
-        let mut trace = Trace::new(Strategy::Union);
-        trace.note(Event::At(Control::BackgroundAlone));
-        trace.note(Event::Scan(first));
-        let ending = Final::new(alloc, table, snap);
+        let shell = Shell::new(alloc, table, snap, Strategy::Union, first);
         Union {
             alloc,
             table,
@@ -171,10 +163,8 @@ impl Union {
             count: nothing_counted(),
             number: 1,
             keys,
-            control: Control::BackgroundAlone,
             guaranteed: u64::from(pages),
-            ending,
-            trace,
+            shell,
         }
     }
 
@@ -213,7 +203,7 @@ impl Union {
     pub fn control(&self) -> Control
         ensures { result ≡ self.now.control }
     {
-        self.control
+        self.shell.control()
     }
 
     /// What it did so far.
@@ -221,21 +211,14 @@ impl Union {
         ensures now { result.now ≡ self.now.trace }
         ensures allowed { Tells self.now → Allowed result.now (indexes_of self.now.plans) }
     {
-        &self.trace
+        self.shell.trace()
     }
 
     /// Whether members are scanned.
     pub(crate) fn is_scanning(&self) -> bool
         ensures { result ≡ scanning self.now.control }
     {
-        match self.control {
-            Control::BackgroundAlone => true,
-            Control::Building
-            | Control::ForegroundAlone
-            | Control::FinalList
-            | Control::FinalTable
-            | Control::Done => false,
-        }
+        self.shell.is_scanning()
     }
 
     /// The id of the next piece, whichever member it is of: pieces are numbered through the union.
@@ -312,7 +295,7 @@ impl Union {
         ensures { result ≡ was_begun (index_of self.now) self.now.trace.events.items }
     {
         let index = self.plan().index;
-        was_begun(self.trace.events.as_slice(), index)
+        was_begun(self.shell.trace().events.as_slice(), index)
     }
 
     /// What the judge is told of the present member.
@@ -339,23 +322,21 @@ impl Union {
     pub(crate) fn note(&mut self, event: Event)
         ensures { self.new ≡ told event self.old }
     {
-        self.trace.note(event);
+        self.shell.note(event);
     }
 
     /// Goes to the control to which a happening leads, and writes it into the trace.
     pub(crate) fn go(&mut self, happening: Happening)
         ensures { self.new ≡ gone happening self.old }
     {
-        let next = course(Strategy::Union, self.control, happening);
-        self.control = next;
-        self.trace.note(Event::At(next));
+        self.shell.go(Strategy::Union, happening);
     }
 
     /// Adds to the trace what a call has read.
     pub(crate) fn note_counts(&mut self, before: Counts, after: Counts)
         ensures { self.new ≡ record self.old { trace = counted self.old.trace before after } }
     {
-        self.trace.count(before, after);
+        self.shell.count(before, after);
     }
 }
 
@@ -494,51 +475,25 @@ impl Union {
         drop(mem::replace(&mut self.lane, Lane::new(self.alloc)));
     }
 
-    /// A step through the list.
-    pub(crate) fn scan_list<R: Reader>(
+    /// A step of the final stage. The keys are in one list before it.
+    pub(crate) fn final_step<R: Reader>(
         &mut self,
         reader: &R,
         steps: &mut Steps<R::Ledger>,
     ) -> Result<Step<Record>, NoMemory>
+        requires over { IsFinal self.old.control }
         requires fits { UnionFits self.old (R.shown reader.now) }
-        ensures same { self.new ≡ record self.old { at = self.new.at } }
-        ensures marks { (need : List ℕ) → IfOk result (λ s. StepMarks need self.old.only (rows_of self.old (R.shown reader.now)) s (list_left (Some self.old.keys) None self.old.at) (list_left (Some self.old.keys) None self.new.at)) }
-        ensures fetches { IfOk result (FetchesKey (first_key (Some self.old.keys) None self.old.at) self.old.only (rows_of self.old (R.shown reader.now)) steps.old steps.new) }
-        ensures passed { OnErr result (PassesKeys (Some self.old.keys) None self.old.at self.new.at) }
-        ensures may_read { OneAtMost record_read steps.old steps.new }
-        ensures tries { Tries steps.old steps.new (keys_work self.old) (keys_work self.new) }
-        ensures falls { IfOk result (λ s. Falls s steps.old steps.new (keys_work self.old) (keys_work self.new)) }
-        ensures records { IfOk result (λ s. steps.new.records + keys_work self.new ≤ steps.old.records + keys_work self.old) }
+        ensures same { self.new ≡ with_shell (shell_of self.new) self.old }
+        ensures stepped { FinalStep self.old.table self.old.snap self.old.only (Some self.old.keys) (R.shown reader.now) steps.old steps.new result (shell_of self.old) (shell_of self.new) }
     {
         self.keys.gather()?;
-        self.ending.list_step(
+        self.shell.step(
             reader,
             self.table,
             self.snap,
             &self.only,
             Some(self.keys.list()),
-            None,
             steps,
         )
-    }
-
-    /// A step through the pages of the table.
-    pub(crate) fn scan_last<R: Reader>(
-        &mut self,
-        reader: &R,
-        steps: &mut Steps<R::Ledger>,
-    ) -> Result<Step<Record>, NoMemory>
-        requires fits { UnionFits self.old (R.shown reader.now) }
-        ensures same { self.new ≡ record self.old { last = self.new.last } }
-        ensures last { LastFits self.old.table self.old.snap self.new.last (R.shown reader.now) }
-        ensures marks { (need : List ℕ) → IfOk result (λ s. StepMarks need self.old.only (rows_of self.old (R.shown reader.now)) s (table_left self.old.last (rows_of self.old (R.shown reader.now)) None) (table_left self.new.last (rows_of self.old (R.shown reader.now)) None)) }
-        ensures err { OnErr result (self.new ≡ self.old) }
-        ensures may_read { OneAtMost page_read steps.old steps.new }
-        ensures reads { IfOk result (λ s. PageReads s steps.old steps.new) }
-        ensures turns { IfOk result (λ s. PageTurns s self.old.last self.new.last ((R.shown reader.now).pages self.old.table self.old.snap)) }
-        ensures tries { Tries steps.old steps.new (table_work self.old (R.shown reader.now)) (table_work self.new (R.shown reader.now)) }
-        ensures falls { IfOk result (λ s. Falls s steps.old steps.new (table_work self.old (R.shown reader.now)) (table_work self.new (R.shown reader.now))) }
-    {
-        self.ending.table_step(reader, &self.only, None, steps)
     }
 }

@@ -2,7 +2,7 @@ use Rattle.std.proofs.Common.{◌≡◌, ◌∙◌, ℕ, IfOk, List, None, OnErr
 use Rattle.rv_value.specs.declared.record.Record.{Record}
 use Rattle.rv_scan.specs.Places.{Fits as PlaceFits, PageTurns, work}
 use Rattle.rv_final.specs.Rest.{StepMarks}
-use Rattle.rv_final.specs.Shell.{Shelled, table_work}
+use Rattle.rv_final.specs.Shell.{Shelled}
 use Rattle.rv_final.specs.Stage.{Staged, own_pages, own_rows, table_left}
 use Rattle.rv_final.specs.Work.{Falls, Tries}
 use Rattle.rv_final.proofs.Endings.{pages_same, rows_same}

@@ -2,7 +2,8 @@ use Rattle.std.proofs.Common.{◌≡◌, ◌∙◌, ap, false, refl, subst, sym,
 use Rattle.rv_value.proofs.Lists.{on_err}
 use Rattle.rv_judge.specs.declared.events.Control.TheVariants.{BackgroundAlone}
 use Rattle.rv_union.specs.Opened.{OnlyTakes}
-use Rattle.rv_union.specs.Unioned.{Unioned, scanning}
+use Rattle.rv_union.specs.Unioned.{Unioned}
+use Rattle.rv_final.specs.Shell.{scanning}
 use Rattle.rv_final.proofs.LaneWork.{tries_on}
 use Rattle.rv_union.proofs.Efforts.{gives_less, leaf_spends, piece_falls}
 use Rattle.rv_union.proofs.Finals.{accepted_piece, one_piece}

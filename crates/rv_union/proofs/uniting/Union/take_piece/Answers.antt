@@ -1,7 +1,8 @@
 use Rattle.std.proofs.Common.{◌≡◌, ap, arith, false}
 use Rattle.std.proofs.lemmas.Bool.Decides.{nat_tests}
 use Rattle.rv_value.proofs.Lists.{on_err}
-use Rattle.rv_union.specs.Unioned.{Unioned, scanning}
+use Rattle.rv_union.specs.Unioned.{Unioned}
+use Rattle.rv_final.specs.Shell.{scanning}
 use Rattle.rv_final.proofs.Takings.{none_read}
 use Rattle.rv_union.proofs.Takes.{none_leaves}
 use Rattle.rv_union.proofs.uniting.Union.take_piece.Goals as goal
