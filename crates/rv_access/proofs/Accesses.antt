@@ -34,13 +34,13 @@ use Rattle.rv_access.specs.declared.access.Access.{Access}
 use Rattle.rv_access.specs.declared.access.Access.TheVariants.{Competing, Racing, Uniting}
 use Rattle.rv_access.specs.declared.racing.RacedQuery.{RacedQuery}
 use Rattle.rv_access.specs.declared.uniting.UnitedQuery.{UnitedQuery}
-use Rattle.rv_access.specs.Accesses.{Keeps, SamePlans, Tells, query_of, trace_of}
-use Rattle.rv_access.specs.Given.{Answers, AwaitsPiece, CountsPiece, IsOfUndropped, RacedGives, SamePieces, TakesPiece, UnitedGives, awaited, piece_read}
-use Rattle.rv_access.specs.Stepping.{GivesStep, RacedGivesStep, SameCourse, SettledTake, StepsAs, UnitedGivesStep}
+use Rattle.rv_access.specs.Accesses.{Keeps, SamePlans, Tells, number_of, query_of, trace_of}
+use Rattle.rv_access.specs.Given.{Answers, AwaitsPiece, CountsPiece, GivesOn, IsOfUndropped, SamePieces, TakesPiece, awaited, piece_read}
+use Rattle.rv_access.specs.Stepping.{GivesStep, SameCourse, SettledTake, StepsAs}
 use Rattle.rv_access.proofs.Boxes.{with_race, with_retrieval, with_union}
 use Rattle.rv_access.proofs.Shapes.{ShapePlans, course_plans as shape_course, given_number as shape_number, given_plans as shape_given, none_read as shape_none, piece_awaited as shape_awaited, plans_stay as shape_stays, settled_back, settled_fetches, settled_joint, steps_plans as shape_steps, take_plans, take_same}
-use Rattle.rv_access.proofs.OfRaces.{given_number as race_number, given_plans as race_given, none_awaited, none_read as race_none, piece_awaited as race_awaited, steps_plans as race_steps, wider}
-use Rattle.rv_access.proofs.OfUnions.{given_number as union_number, given_plans as union_given, none_awaited as union_none, none_read as union_unread, piece_awaited as union_awaited, steps_plans as union_steps}
+use Rattle.rv_access.proofs.OfRaces.{given_number as race_number, none_awaited, none_read as race_none, piece_awaited as race_awaited, steps_plans as race_steps, wider}
+use Rattle.rv_access.proofs.OfUnions.{given_number as union_number, none_awaited as union_none, none_read as union_unread, piece_awaited as union_awaited, steps_plans as union_steps}
 
 -- WHAT IS ASKED, THE STRATEGY AND THE PLANNED SCANS STAY
 
@@ -85,35 +85,27 @@ pub retrieval_plans : {E : Type 0} (r : Result Given E) (would : ℕ → Facts �
 retrieval_plans (Ok g) would state after piece b old new gives e = boxed_plans (with_value b old) (with_value b new) (shape_given would state after piece g old new gives)
 retrieval_plans (Err x) would state after piece b old new gives e = boxed_plans (with_value b old) (with_value b new) (subst (ShapePlans old) (sym e) (shape_stays old))
 
-pub raced_number : {E : Type 0} (r : Result Given E) (would : ℕ → Facts → Ruling) (state after : ℕ) (piece : Pieced) (old new : RacedQuery) → IfOk r (λ g. RacedGives would state after piece g old new) → IfOk r (λ g. CountsPiece g old.race.number new.race.number)
-raced_number (Ok g) would state after piece old new gives = race_number would state after piece g old new gives
-raced_number (Err x) would state after piece old new gives = tt
+given_number : (would : ℕ → Facts → Ruling) (state after : ℕ) (piece : Pieced) (g : Given) (old new : Access) → GivesOn would state after piece g old new → CountsPiece g (number_of old) (number_of new)
+given_number would state after piece g (Competing v) (Competing w) gives = shape_number would state after piece g v.value w.value gives
+given_number would state after piece g (Competing v) (Racing s) gives = absurd gives
+given_number would state after piece g (Competing v) (Uniting s) gives = absurd gives
+given_number would state after piece g (Racing r) (Competing w) gives = absurd gives
+given_number would state after piece g (Racing r) (Racing s) gives = race_number would state after piece g r.value.race s.value.race gives.gives
+given_number would state after piece g (Racing r) (Uniting s) gives = absurd gives
+given_number would state after piece g (Uniting u) (Competing w) gives = absurd gives
+given_number would state after piece g (Uniting u) (Racing s) gives = absurd gives
+given_number would state after piece g (Uniting u) (Uniting s) gives = union_number would state after piece g u.value.union s.value.union gives.gives
 
-pub raced_plans : {E : Type 0} (r : Result Given E) (would : ℕ → Facts → Ruling) (state after : ℕ) (piece : Pieced) (b : Box RacedQuery Global) (old new : RacedQuery) → IfOk r (λ g. RacedGives would state after piece g old new) → OnErr r (new ≡ old) → SamePlans (with_race b old) (with_race b new)
-raced_plans (Ok g) would state after piece b old new gives e = race_given would state after piece g (with_value b old) (with_value b new) gives
-raced_plans (Err x) would state after piece b old new gives e = subst (λ (r : RacedQuery). SamePlans (with_race b old) (with_race b r)) (sym e) (plans_stay (with_race b old))
-
-pub united_number : {E : Type 0} (r : Result Given E) (would : ℕ → Facts → Ruling) (state after : ℕ) (piece : Pieced) (old new : UnitedQuery) → IfOk r (λ g. UnitedGives would state after piece g old new) → IfOk r (λ g. CountsPiece g old.union.number new.union.number)
-united_number (Ok g) would state after piece old new gives = union_number would state after piece g old new gives
-united_number (Err x) would state after piece old new gives = tt
-
-pub united_plans : {E : Type 0} (r : Result Given E) (would : ℕ → Facts → Ruling) (state after : ℕ) (piece : Pieced) (b : Box UnitedQuery Global) (old new : UnitedQuery) → IfOk r (λ g. UnitedGives would state after piece g old new) → OnErr r (new ≡ old) → SamePlans (with_union b old) (with_union b new)
-united_plans (Ok g) would state after piece b old new gives e = union_given would state after piece g (with_value b old) (with_value b new) gives
-united_plans (Err x) would state after piece b old new gives e = subst (λ (u : UnitedQuery). SamePlans (with_union b old) (with_union b u)) (sym e) (plans_stay (with_union b old))
+-- a piece that is given is counted as it is answered
+pub numbered : {E : Type 0} (r : Result Given E) (would : ℕ → Facts → Ruling) (state after : ℕ) (piece : Pieced) (old new : Access) → IfOk r (λ g. GivesOn would state after piece g old new) → IfOk r (λ g. CountsPiece g (number_of old) (number_of new))
+numbered (Ok g) would state after piece old new gives = given_number would state after piece g old new gives
+numbered (Err x) would state after piece old new gives = tt
 
 -- WHAT THE CALLS ANSWER, in the words of accesses
 
 pub retrieval_gives : {E : Type 0} (r : Result (Step Record) E) (b : Box Shape Global) (v w : Shape) (shown : Shown) → IfOk r (RetrievalGivesStep v w shown) → IfOk r (GivesStep (with_retrieval b v) (with_retrieval b w) shown)
 retrieval_gives (Ok s) b v w shown gives = gives
 retrieval_gives (Err x) b v w shown gives = tt
-
-pub race_gives : {E : Type 0} (r : Result (Step Record) E) (b : Box RacedQuery Global) (old new : RacedQuery) (shown : Shown) → IfOk r (RacedGivesStep old new shown) → IfOk r (GivesStep (with_race b old) (with_race b new) shown)
-race_gives (Ok s) b old new shown gives = gives
-race_gives (Err x) b old new shown gives = tt
-
-pub union_gives : {E : Type 0} (r : Result (Step Record) E) (b : Box UnitedQuery Global) (old new : UnitedQuery) (shown : Shown) → IfOk r (UnitedGivesStep old new shown) → IfOk r (GivesStep (with_union b old) (with_union b new) shown)
-union_gives (Ok s) b old new shown gives = gives
-union_gives (Err x) b old new shown gives = tt
 
 pub retrieval_takes : {E : Type 0} (r : Result Taken E) (b : Box Shape Global) (v : Shape) → IfOk r (RetrievalTakesPiece v) → IfOk r (TakesPiece (with_retrieval b v))
 retrieval_takes (Ok (Piece piece)) b v takes = takes
@@ -147,27 +139,27 @@ retrieval_answers (Ok Accepted) b v w piece answers = answers
 retrieval_answers (Ok (Stale asked now)) b v w piece answers = (answers.0, answers.1, answers.2, ap (with_retrieval b) answers.3)
 retrieval_answers (Err x) b v w piece answers = tt
 
-pub race_answers : {E : Type 0} (r : Result Given E) (b : Box RacedQuery Global) (old new : RacedQuery) (piece : Pieced) → new ≡ record old { race = new.race } → IfOk r (λ g. RaceAnswers old.race piece g new.race) → IfOk r (λ g. Answers (with_race b old) piece g (with_race b new))
-race_answers (Ok Accepted) b old new piece same answers = answers
-race_answers (Ok (Stale asked now)) b old new piece same answers = (answers.0, answers.1, answers.2, ap (with_race b) (same ∙ ap (λ (race : Raced). record old { race = race }) answers.3))
-race_answers (Err x) b old new piece same answers = tt
+pub race_answers : {E : Type 0} (r : Result Given E) (b : Box RacedQuery Global) (old : RacedQuery) (new : Raced) (piece : Pieced) → IfOk r (λ g. RaceAnswers old.race piece g new) → IfOk r (λ g. Answers (with_race b old) piece g (with_race b (record old { race = new })))
+race_answers (Ok Accepted) b old new piece answers = answers
+race_answers (Ok (Stale asked now)) b old new piece answers = (answers.0, answers.1, answers.2, ap (λ (race : Raced). with_race b (record old { race = race })) answers.3)
+race_answers (Err x) b old new piece answers = tt
 
-pub union_answers : {E : Type 0} (r : Result Given E) (b : Box UnitedQuery Global) (old new : UnitedQuery) (piece : Pieced) → new ≡ record old { union = new.union } → IfOk r (λ g. UnionAnswers old.union piece g new.union) → IfOk r (λ g. Answers (with_union b old) piece g (with_union b new))
-union_answers (Ok Accepted) b old new piece same answers = answers
-union_answers (Ok (Stale asked now)) b old new piece same answers = (answers.0, answers.1, answers.2, ap (with_union b) (same ∙ ap (λ (union : Unioned). record old { union = union }) answers.3))
-union_answers (Err x) b old new piece same answers = tt
+pub union_answers : {E : Type 0} (r : Result Given E) (b : Box UnitedQuery Global) (old : UnitedQuery) (new : Unioned) (piece : Pieced) → IfOk r (λ g. UnionAnswers old.union piece g new) → IfOk r (λ g. Answers (with_union b old) piece g (with_union b (record old { union = new })))
+union_answers (Ok Accepted) b old new piece answers = answers
+union_answers (Ok (Stale asked now)) b old new piece answers = (answers.0, answers.1, answers.2, ap (λ (union : Unioned). with_union b (record old { union = union })) answers.3)
+union_answers (Err x) b old new piece answers = tt
 
 pub same_retrieval : {X E : Type 0} (r : Result X E) (b : Box Shape Global) (v w : Shape) → OnErr r (w ≡ v) → OnErr r (with_retrieval b w ≡ with_retrieval b v)
 same_retrieval (Ok x) b v w e = tt
 same_retrieval (Err x) b v w e = ap (with_retrieval b) e
 
-pub same_race : {X E : Type 0} (r : Result X E) (b : Box RacedQuery Global) (old new : RacedQuery) → OnErr r (new ≡ old) → OnErr r (with_race b new ≡ with_race b old)
+pub same_race : {X E : Type 0} (r : Result X E) (b : Box RacedQuery Global) (old : RacedQuery) (new : Raced) → OnErr r (new ≡ old.race) → OnErr r (with_race b (record old { race = new }) ≡ with_race b old)
 same_race (Ok x) b old new e = tt
-same_race (Err x) b old new e = ap (with_race b) e
+same_race (Err x) b old new e = ap (λ (race : Raced). with_race b (record old { race = race })) e
 
-pub same_union : {X E : Type 0} (r : Result X E) (b : Box UnitedQuery Global) (old new : UnitedQuery) → OnErr r (new ≡ old) → OnErr r (with_union b new ≡ with_union b old)
+pub same_union : {X E : Type 0} (r : Result X E) (b : Box UnitedQuery Global) (old : UnitedQuery) (new : Unioned) → OnErr r (new ≡ old.union) → OnErr r (with_union b (record old { union = new }) ≡ with_union b old)
 same_union (Ok x) b old new e = tt
-same_union (Err x) b old new e = ap (with_union b) e
+same_union (Err x) b old new e = ap (λ (union : Unioned). with_union b (record old { union = union })) e
 
 pub retrieval_keeps : (b : Box Shape Global) (v w : Shape) → ShapeKeeps v w → Keeps (with_retrieval b v) (with_retrieval b w)
 retrieval_keeps b v w keeps = record { query = keeps.query; fits = keeps.fits; rest = keeps.rest }

@@ -3,10 +3,12 @@ use Rattle.std.proofs.Common.{◌≡◌, Box, ap, sym, ◌∙◌, subst}
 use Rattle.std.specs.Box.{with_value}
 use Rattle.std.specs.declared.alloc.Global.{Global}
 use Rattle.rv_retrieval.specs.Shape.{Shape}
+use Rattle.rv_reader.specs.Shown.{Shown}
 use Rattle.rv_access.specs.declared.access.Access.{Access}
 use Rattle.rv_access.specs.declared.access.Access.TheVariants.{Competing, Racing, Uniting}
 use Rattle.rv_access.specs.declared.racing.RacedQuery.{RacedQuery}
 use Rattle.rv_access.specs.declared.uniting.UnitedQuery.{UnitedQuery}
+use Rattle.rv_access.specs.Accesses.{AccessFits, RacedFits, UnitedFits}
 
 -- the access of a box with this value
 abbrev pub with_retrieval : Box Shape Global → Shape → Access
@@ -27,6 +29,13 @@ has_race {a} {b} {r} is e = is ∙ ap (with_race b) (sym e)
 
 pub has_union : {a : Access} {b : Box UnitedQuery Global} {u : UnitedQuery} → a ≡ Uniting b → u ≡ b.value → a ≡ with_union b u
 has_union {a} {b} {u} is e = is ∙ ap (with_union b) (sym e)
+
+-- what was drawn from what a reader shows
+pub race_fits : {a : Access} {r : RacedQuery} (b : Box RacedQuery Global) (shown : Shown) → a ≡ with_race b r → AccessFits a shown → RacedFits r shown
+race_fits {a} {r} b shown is fits = subst (λ (x : Access). AccessFits x shown) is fits
+
+pub union_fits : {a : Access} {u : UnitedQuery} (b : Box UnitedQuery Global) (shown : Shown) → a ≡ with_union b u → AccessFits a shown → UnitedFits u shown
+union_fits {a} {u} b shown is fits = subst (λ (x : Access). AccessFits x shown) is fits
 
 -- what is said of a box with this value is said of the box that was made of it
 pub boxed_race : (P : Access → Type 0) (b : Box RacedQuery Global) (r : RacedQuery) → b.value ≡ r → P (with_race b r) → P (Racing b)

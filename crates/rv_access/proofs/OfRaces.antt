@@ -32,9 +32,9 @@ use Rattle.rv_jscan.specs.Steps.{held_next}
 use Rattle.rv_choice.specs.declared.query.Query.{Query}
 use Rattle.rv_final.specs.Rest.{Steps}
 use Rattle.rv_retrieval.specs.Runs.{indexes_asked}
-use Rattle.rv_race.specs.Given.{Awaits, awaited, next_id, piece_read, turn_lane, turn_scan}
+use Rattle.rv_race.specs.Given.{Awaits, TakesLeaf, awaited, next_id, piece_read, turn_lane, turn_scan}
 use Rattle.rv_race.specs.Opened.{DoesAs, DoesStep, EndsIn, OnlyTakes, StepsAs as RaceSteps, ended_by}
-use Rattle.rv_race.specs.Raced.{RaceFits, Raced, SameRace, rest}
+use Rattle.rv_race.specs.Raced.{Keeps as RaceKeeps, RaceFits, Raced, SameRace, rest}
 use Rattle.rv_final.specs.Shell.{scanning}
 use Rattle.rv_race.specs.Rulings.{GivesOn, HasNextTurn, Obeys, accepted, ended, index_at, listed, more, over, ruled, told_over}
 use Rattle.rv_jscan.specs.Planned.{indexes_of}
@@ -44,8 +44,8 @@ use Rattle.rv_race.proofs.Switches.{over_as}
 use Rattle.rv_access.specs.declared.access.Access.TheVariants.{Racing}
 use Rattle.rv_access.specs.declared.racing.RacedQuery.{RacedQuery}
 use Rattle.rv_access.specs.Accesses.{IsOver, Keeps, RacedFits, RacedTells, SamePlans}
-use Rattle.rv_access.specs.Given.{CountsPiece, RacedGives, RacedLeaf, SamePieces}
-use Rattle.rv_access.specs.Stepping.{RacedCourse, RacedGivesStep, RacedOnly, RacedSteps}
+use Rattle.rv_access.specs.Given.{CountsPiece, RacedGives, SamePieces}
+use Rattle.rv_access.specs.Stepping.{GivesStep, RacedCourse, RacedOnly, RacedSteps}
 use Rattle.rv_access.proofs.Boxes.{with_race}
 
 -- WHAT IT IS OVER STAYS
@@ -124,9 +124,9 @@ obeyed_turns would state after piece None old new o =
 
 -- A STEP
 
-pub gives_step : {E : Type 0} (r : Result (Step Record) E) (old : RacedQuery) (new : Raced) (shown : Shown) → old.query.order ≡ [] → IfOk r (DoesStep old.race new shown) → IfOk r (RacedGivesStep old (record old { race = new }) shown)
-gives_step (Ok s) old new shown o does = subst (λ (order : List ℕ). Steps old.query.need order s (rest old.race shown) (rest new shown)) (sym o) (does old.query.need)
-gives_step (Err x) old new shown o does = tt
+pub gives_step : {E : Type 0} (r : Result (Step Record) E) (b : Box RacedQuery Global) (old : RacedQuery) (new : Raced) (shown : Shown) → old.query.order ≡ [] → IfOk r (DoesStep old.race new shown) → IfOk r (GivesStep (with_race b old) (with_race b (record old { race = new })) shown)
+gives_step (Ok s) b old new shown o does = subst (λ (order : List ℕ). Steps old.query.need order s (rest old.race shown) (rest new shown)) (sym o) (does old.query.need)
+gives_step (Err x) b old new shown o does = tt
 
 pub does_as : {E : Type 0} (r : Result (Step Record) E) (would : ℕ → Facts → Ruling) (state after : ℕ) (shown : Shown) (c d : Counts) (old : RacedQuery) (new : Raced) → IfOk r (λ s. RaceSteps would state after shown c d s old.race new) → IfOk r (λ s. RacedSteps would state after shown c d s old (record old { race = new }))
 does_as (Ok s) would state after shown c d old new steps = record { same = refl; steps = steps }
@@ -182,36 +182,17 @@ course_if (Err x) old new only = only_course old new only
 
 -- A TAKE
 
-pub leaf_plans : (b : Box RacedQuery Global) (old new : RacedQuery) → RacedLeaf old new → SamePlans (with_race b old) (with_race b new)
-leaf_plans b old new leaf = record {
-  query = ap (λ (r : RacedQuery). r.query) leaf.same;
-  strategy = refl;
-  plans = ap (λ (r : Raced). r.plans) leaf.leaves.same;
-}
+pub leaf_plans : (b : Box RacedQuery Global) (old : RacedQuery) (new : Raced) → TakesLeaf old.race new → SamePlans (with_race b old) (with_race b (record old { race = new }))
+leaf_plans b old new leaves = record { query = refl; strategy = refl; plans = ap (λ (r : Raced). r.plans) leaves.same }
 
-pub leaf_query : (old new : RacedQuery) → RacedLeaf old new → new.query ≡ old.query
-leaf_query old new leaf = ap (λ (r : RacedQuery). r.query) leaf.same
-
-pub leaf_pieces : (b : Box RacedQuery Global) (old new : RacedQuery) → RacedLeaf old new → awaited new.race ≡ awaited old.race → SamePieces (with_race b old) (with_race b new)
-leaf_pieces b old new leaf same = record { awaited = same; number = ap (λ (r : Raced). r.number) leaf.leaves.same }
+pub leaf_pieces : (b : Box RacedQuery Global) (old : RacedQuery) (new : Raced) → TakesLeaf old.race new → awaited new ≡ awaited old.race → SamePieces (with_race b old) (with_race b (record old { race = new }))
+leaf_pieces b old new leaves same = record { awaited = same; number = ap (λ (r : Raced). r.number) leaves.same }
 
 -- A GIVE
 
-pub given_number : (would : ℕ → Facts → Ruling) (state after : ℕ) (piece : Pieced) (g : Given) (old new : RacedQuery) → RacedGives would state after piece g old new → CountsPiece g old.race.number new.race.number
-given_number would state after piece Accepted old new gives = (obeyed_turns would state after piece (held_next (turn_lane old.race).held) old.race new.race gives.gives).1
-given_number would state after piece (Stale asked now) old new gives = ap (λ (r : Raced). r.number) gives.gives.0
-
-pub given_plans : (would : ℕ → Facts → Ruling) (state after : ℕ) (piece : Pieced) (g : Given) (old new : Box RacedQuery Global) → RacedGives would state after piece g old.value new.value → SamePlans (Racing old) (Racing new)
-given_plans would state after piece Accepted old new gives = record {
-  query = ap (λ (r : RacedQuery). r.query) gives.same;
-  strategy = refl;
-  plans = (obeyed_turns would state after piece (held_next (turn_lane old.value.race).held) old.value.race new.value.race gives.gives).0;
-}
-given_plans would state after piece (Stale asked now) old new gives = record {
-  query = ap (λ (r : RacedQuery). r.query) gives.same;
-  strategy = refl;
-  plans = ap (λ (r : Raced). r.plans) gives.gives.0;
-}
+pub given_number : (would : ℕ → Facts → Ruling) (state after : ℕ) (piece : Pieced) (g : Given) (old new : Raced) → GivesOn would state after piece g old new → CountsPiece g old.number new.number
+given_number would state after piece Accepted old new gives = (obeyed_turns would state after piece (held_next (turn_lane old).held) old new gives).1
+given_number would state after piece (Stale asked now) old new gives = ap (λ (r : Raced). r.number) gives.0
 
 -- the awaited piece has the awaited id
 pub piece_awaited : (r : Raced) (piece : Pieced) → Awaits r piece → awaited r ≡ Some piece.id
@@ -229,9 +210,5 @@ pub gives_as_raced : {E : Type 0} (r : Result Given E) (would : ℕ → Facts �
 gives_as_raced (Ok g) would state after piece old new gives turns = record { same = refl; gives = gives; turns = turns }
 gives_as_raced (Err x) would state after piece old new gives turns = tt
 
-pub same_if : {X E : Type 0} (r : Result X E) (old : RacedQuery) (new : Raced) → OnErr r (new ≡ old.race) → OnErr r (record old { race = new } ≡ old)
-same_if (Ok x) old new e = tt
-same_if (Err x) old new e = ap (λ (race : Raced). record old { race = race }) e
-
-pub raced_keeps : (b : Box RacedQuery Global) (old new : RacedQuery) → new ≡ record old { race = new.race } → ((shown : Shown) → RacedFits old shown → RacedFits new shown) → ((shown : Shown) → RacedFits old shown → rest new.race shown ≡ rest old.race shown) → Keeps (with_race b old) (with_race b new)
-raced_keeps b old new same fits left = record { query = ap (λ (r : RacedQuery). r.query) same; fits = fits; rest = left }
+pub raced_keeps : (b : Box RacedQuery Global) (old : RacedQuery) (new : Raced) → SameRace old.race new → RaceKeeps old.race new → Keeps (with_race b old) (with_race b (record old { race = new }))
+raced_keeps b old new same keeps = record { query = refl; fits = λ shown f. fits_on old new shown same f (keeps.fits shown f.race); rest = λ shown f. keeps.rest shown f.race }

@@ -24,20 +24,20 @@ use Rattle.rv_jscan.specs.Steps.{held_next}
 use Rattle.rv_choice.specs.declared.query.Query.{Query}
 use Rattle.rv_final.specs.Rest.{Steps}
 use Rattle.rv_retrieval.specs.Runs.{indexes_asked}
-use Rattle.rv_union.specs.Given.{Awaits, awaited, next_id, piece_read}
+use Rattle.rv_union.specs.Given.{Awaits, TakesLeaf, awaited, next_id, piece_read}
 use Rattle.rv_union.specs.Opened.{DoesAs, DoesStep, EndsIn, OnlyTakes, StepsAs as UnionSteps, ended_by}
 use Rattle.rv_union.specs.Rulings.{GivesOn, Obeys, accepted, joined, next_member, over, ruled}
 use Rattle.rv_jscan.specs.Planned.{indexes_of}
 use Rattle.rv_union.specs.Runs.{Tells}
-use Rattle.rv_union.specs.Unioned.{SameUnion, UnionFits, Unioned, rest}
+use Rattle.rv_union.specs.Unioned.{Keeps as UnionKeeps, SameUnion, UnionFits, Unioned, rest}
 use Rattle.rv_final.specs.Shell.{scanning}
 use Rattle.rv_final.proofs.Takings.{unawaited_read}
 use Rattle.rv_union.proofs.Switches.{over_as, told_parts}
 use Rattle.rv_access.specs.declared.access.Access.TheVariants.{Uniting}
 use Rattle.rv_access.specs.declared.uniting.UnitedQuery.{UnitedQuery}
 use Rattle.rv_access.specs.Accesses.{Keeps, SamePlans, UnitedFits, UnitedTells, UnitesOver}
-use Rattle.rv_access.specs.Given.{CountsPiece, SamePieces, UnitedGives, UnitedLeaf}
-use Rattle.rv_access.specs.Stepping.{UnitedCourse, UnitedGivesStep, UnitedOnly, UnitedSteps}
+use Rattle.rv_access.specs.Given.{CountsPiece, SamePieces, UnitedGives}
+use Rattle.rv_access.specs.Stepping.{GivesStep, UnitedCourse, UnitedOnly, UnitedSteps}
 use Rattle.rv_access.proofs.Boxes.{with_union}
 
 -- WHAT IT IS OVER STAYS
@@ -80,9 +80,9 @@ obeyed_turns would state after piece None old new o =
 
 -- A STEP
 
-pub gives_step : {E : Type 0} (r : Result (Step Record) E) (old : UnitedQuery) (new : Unioned) (shown : Shown) → old.query.order ≡ [] → IfOk r (DoesStep old.union new shown) → IfOk r (UnitedGivesStep old (record old { union = new }) shown)
-gives_step (Ok s) old new shown o does = subst (λ (order : List ℕ). Steps old.query.need order s (rest old.union shown) (rest new shown)) (sym o) (does old.query.need)
-gives_step (Err x) old new shown o does = tt
+pub gives_step : {E : Type 0} (r : Result (Step Record) E) (b : Box UnitedQuery Global) (old : UnitedQuery) (new : Unioned) (shown : Shown) → old.query.order ≡ [] → IfOk r (DoesStep old.union new shown) → IfOk r (GivesStep (with_union b old) (with_union b (record old { union = new })) shown)
+gives_step (Ok s) b old new shown o does = subst (λ (order : List ℕ). Steps old.query.need order s (rest old.union shown) (rest new shown)) (sym o) (does old.query.need)
+gives_step (Err x) b old new shown o does = tt
 
 pub does_as : {E : Type 0} (r : Result (Step Record) E) (would : ℕ → Facts → Ruling) (state after : ℕ) (shown : Shown) (c d : Counts) (old : UnitedQuery) (new : Unioned) → IfOk r (λ s. UnionSteps would state after shown c d s old.union new) → IfOk r (λ s. UnitedSteps would state after shown c d s old (record old { union = new }))
 does_as (Ok s) would state after shown c d old new steps = record { same = refl; steps = steps }
@@ -138,36 +138,17 @@ course_if (Err x) old new only = only_course old new only
 
 -- A TAKE
 
-pub leaf_plans : (b : Box UnitedQuery Global) (old new : UnitedQuery) → UnitedLeaf old new → SamePlans (with_union b old) (with_union b new)
-leaf_plans b old new leaf = record {
-  query = ap (λ (u : UnitedQuery). u.query) leaf.same;
-  strategy = refl;
-  plans = ap (λ (u : Unioned). u.plans) leaf.leaves.same;
-}
+pub leaf_plans : (b : Box UnitedQuery Global) (old : UnitedQuery) (new : Unioned) → TakesLeaf old.union new → SamePlans (with_union b old) (with_union b (record old { union = new }))
+leaf_plans b old new leaves = record { query = refl; strategy = refl; plans = ap (λ (u : Unioned). u.plans) leaves.same }
 
-pub leaf_query : (old new : UnitedQuery) → UnitedLeaf old new → new.query ≡ old.query
-leaf_query old new leaf = ap (λ (u : UnitedQuery). u.query) leaf.same
-
-pub leaf_pieces : (b : Box UnitedQuery Global) (old new : UnitedQuery) → UnitedLeaf old new → awaited new.union ≡ awaited old.union → SamePieces (with_union b old) (with_union b new)
-leaf_pieces b old new leaf same = record { awaited = same; number = ap (λ (u : Unioned). u.number) leaf.leaves.same }
+pub leaf_pieces : (b : Box UnitedQuery Global) (old : UnitedQuery) (new : Unioned) → TakesLeaf old.union new → awaited new ≡ awaited old.union → SamePieces (with_union b old) (with_union b (record old { union = new }))
+leaf_pieces b old new leaves same = record { awaited = same; number = ap (λ (u : Unioned). u.number) leaves.same }
 
 -- A GIVE
 
-pub given_number : (would : ℕ → Facts → Ruling) (state after : ℕ) (piece : Pieced) (g : Given) (old new : UnitedQuery) → UnitedGives would state after piece g old new → CountsPiece g old.union.number new.union.number
-given_number would state after piece Accepted old new gives = (obeyed_turns would state after piece (held_next old.union.lane.held) old.union new.union gives.gives).1
-given_number would state after piece (Stale asked now) old new gives = ap (λ (u : Unioned). u.number) gives.gives.0
-
-pub given_plans : (would : ℕ → Facts → Ruling) (state after : ℕ) (piece : Pieced) (g : Given) (old new : Box UnitedQuery Global) → UnitedGives would state after piece g old.value new.value → SamePlans (Uniting old) (Uniting new)
-given_plans would state after piece Accepted old new gives = record {
-  query = ap (λ (u : UnitedQuery). u.query) gives.same;
-  strategy = refl;
-  plans = (obeyed_turns would state after piece (held_next old.value.union.lane.held) old.value.union new.value.union gives.gives).0;
-}
-given_plans would state after piece (Stale asked now) old new gives = record {
-  query = ap (λ (u : UnitedQuery). u.query) gives.same;
-  strategy = refl;
-  plans = ap (λ (u : Unioned). u.plans) gives.gives.0;
-}
+pub given_number : (would : ℕ → Facts → Ruling) (state after : ℕ) (piece : Pieced) (g : Given) (old new : Unioned) → GivesOn would state after piece g old new → CountsPiece g old.number new.number
+given_number would state after piece Accepted old new gives = (obeyed_turns would state after piece (held_next old.lane.held) old new gives).1
+given_number would state after piece (Stale asked now) old new gives = ap (λ (u : Unioned). u.number) gives.0
 
 -- the awaited piece has the awaited id
 pub piece_awaited : (u : Unioned) (piece : Pieced) → Awaits u piece → awaited u ≡ Some piece.id
@@ -185,9 +166,5 @@ pub gives_as_united : {E : Type 0} (r : Result Given E) (would : ℕ → Facts �
 gives_as_united (Ok g) would state after piece old new gives = record { same = refl; gives = gives }
 gives_as_united (Err x) would state after piece old new gives = tt
 
-pub same_if : {X E : Type 0} (r : Result X E) (old : UnitedQuery) (new : Unioned) → OnErr r (new ≡ old.union) → OnErr r (record old { union = new } ≡ old)
-same_if (Ok x) old new e = tt
-same_if (Err x) old new e = ap (λ (union : Unioned). record old { union = union }) e
-
-pub united_keeps : (b : Box UnitedQuery Global) (old new : UnitedQuery) → new ≡ record old { union = new.union } → ((shown : Shown) → UnitedFits old shown → UnitedFits new shown) → ((shown : Shown) → UnitedFits old shown → rest new.union shown ≡ rest old.union shown) → Keeps (with_union b old) (with_union b new)
-united_keeps b old new same fits left = record { query = ap (λ (u : UnitedQuery). u.query) same; fits = fits; rest = left }
+pub united_keeps : (b : Box UnitedQuery Global) (old : UnitedQuery) (new : Unioned) → SameUnion old.union new → UnionKeeps old.union new → Keeps (with_union b old) (with_union b (record old { union = new }))
+united_keeps b old new same keeps = record { query = refl; fits = λ shown f. fits_on old new shown same f (keeps.fits shown f.union); rest = λ shown f. keeps.rest shown f.union }

@@ -1,5 +1,5 @@
 -- What a step of an access does and reads.
-use Rattle.std.specs.Prelude.{◌≡◌, ℕ, []}
+use Rattle.std.specs.Prelude.{◌≡◌, ℕ}
 use Rattle.rv_judge.specs.declared.counting.Counts.{Counts}
 use Rattle.rv_judge.specs.declared.judging.Facts.{Facts}
 use Rattle.rv_judge.specs.Verdicts.{Ruling}
@@ -11,9 +11,7 @@ use Rattle.rv_retrieval.specs.Runs.{SameCourse as RetrievalCourse}
 use Rattle.rv_retrieval.specs.Stepping.{MayReadIts as RetrievalReads, OnlyTakes as RetrievalOnly, StepsAs as RetrievalSteps}
 use Rattle.rv_race.specs.Given.{turn_scan}
 use Rattle.rv_race.specs.Opened.{MayRead as RaceReads, OnlyTakes as RaceOnly, StepsAs as RaceSteps}
-use Rattle.rv_race.specs.Raced.{rest as race_rest}
 use Rattle.rv_union.specs.Opened.{MayRead as UnionReads, OnlyTakes as UnionOnly, StepsAs as UnionSteps}
-use Rattle.rv_union.specs.Unioned.{rest as union_rest}
 use Rattle.rv_access.specs.declared.access.Access.{Access}
 use Rattle.rv_access.specs.declared.access.Access.TheVariants.{Competing, Racing, Uniting}
 use Rattle.rv_access.specs.declared.racing.RacedQuery.{RacedQuery}
@@ -25,16 +23,6 @@ use Rattle.rv_access.specs.Accesses.{Alike, Settled, fetches_left, query_of, res
 abbrev pub GivesStep : Access → Access → Shown → Step Record → Type 0
 GivesStep old new shown step =
     Steps (query_of old).need (query_of old).order step (rest old shown) (rest new shown)
-
--- the same of a race, in its own words
-abbrev pub RacedGivesStep : RacedQuery → RacedQuery → Shown → Step Record → Type 0
-RacedGivesStep old new shown step =
-    Steps old.query.need old.query.order step (race_rest old.race shown) (race_rest new.race shown)
-
--- the same of a union
-abbrev pub UnitedGivesStep : UnitedQuery → UnitedQuery → Shown → Step Record → Type 0
-UnitedGivesStep old new shown step =
-    Steps old.query.need old.query.order step (union_rest old.union shown) (union_rest new.union shown)
 
 -- a step of a race
 pub record RacedSteps (would : ℕ → Facts → Ruling) (state after : ℕ) (shown : Shown) (c d : Counts) (fg : Step Record)

@@ -405,8 +405,8 @@ impl Access {
     {
         match self {
             Access::Competing(retrieval) => retrieval.fg_step(reader, judge, steps),
-            Access::Racing(raced) => raced.fg_step(reader, judge, steps),
-            Access::Uniting(united) => united.fg_step(reader, judge, steps),
+            Access::Racing(raced) => raced.race.step(reader, judge, steps),
+            Access::Uniting(united) => united.union.step(reader, judge, steps),
         }
     }
 
@@ -438,8 +438,8 @@ impl Access {
     {
         match self {
             Access::Competing(retrieval) => retrieval.take(reader, steps),
-            Access::Racing(raced) => raced.take(reader, steps),
-            Access::Uniting(united) => united.take(reader, steps),
+            Access::Racing(raced) => raced.race.take(reader, steps),
+            Access::Uniting(united) => united.union.take(reader, steps),
         }
     }
 
@@ -472,8 +472,8 @@ impl Access {
     {
         match self {
             Access::Competing(retrieval) => retrieval.give(sieved, judge, steps),
-            Access::Racing(raced) => raced.give(sieved, judge, steps),
-            Access::Uniting(united) => united.give(sieved, judge, steps),
+            Access::Racing(raced) => raced.race.give(sieved, judge, steps),
+            Access::Uniting(united) => united.union.give(sieved, judge, steps),
         }
     }
 }
