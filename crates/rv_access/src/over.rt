@@ -35,7 +35,7 @@ impl Over {
         ensures { self.new ≡ record self.old { retrieval = kept access self.old.retrieval } }
     {
         match access {
-            Access::Competing(retrieval) => drop(self.retrieval.replace(retrieval)),
+            Access::Competing(retrieval) => self.retrieval = Some(retrieval),
             Access::Racing(raced) => drop(raced),
             Access::Uniting(united) => drop(united),
         }
@@ -64,6 +64,6 @@ impl Over {
 
     /// Keeps the memory of candidates.
     pub(crate) fn keep_candidates(&mut self, candidates: Vec<Candidate>) {
-        drop(mem::replace(&mut self.candidates, candidates));
+        self.candidates = candidates;
     }
 }
