@@ -2,9 +2,10 @@
 """Lists the public calls that may fail while something to be changed is lent to them, each with its clauses, and compares them
 with the table of docs/PROMISES.md, "Safe and total".
 
-A call is public where the crate's lib.rt hands its name on, or that of its type; an impl of a trait counts as the trait. Looked
-at are the crates below rv_cli, rv_lending and rv_replay. With --check it fails where such a call does not stand in the first
-column of the table, under its crate or its type, or where the table names a clause that none of its row's calls has."""
+A call is public where the crate's lib.rt hands its name on, or that of its type; an impl of a trait counts as the trait. Where a
+clause without a name is a record of the crate, the record's fields are clauses too. Looked at are the crates below rv_cli,
+rv_lending and rv_replay. With --check it fails where such a call does not stand in the first column of the table, under its crate
+or its type, or where the table names a clause that none of its row's calls has."""
 from __future__ import annotations
 
 import argparse
@@ -19,6 +20,9 @@ TOP = Path(__file__).resolve().parent.parent
 ABOVE = ("rv_cli", "rv_lending", "rv_replay")
 TICKED = re.compile(r"`([^`]+)`")
 CLAUSE = re.compile(r"ensures (?:(\w+) )?\{")
+UNNAMED = re.compile(r"ensures \{ (?:\([^)]*\) → )*([A-Z]\w*)\b")
+RECORD = re.compile(r"^pub record (\w+)(.*(?:\n .*)*)", re.M)
+FIELD = re.compile(r"^  pub (\w+) :", re.M)
 
 
 @dataclass(frozen=True)
@@ -84,9 +88,19 @@ def signatures(text: str) -> Iterator[tuple[str, str]]:
         yield owner, "\n".join(whole)
 
 
+def records(specs: Path) -> dict[str, frozenset[str]]:
+    """The fields of each record that a crate's definitions have."""
+    found = {}
+    for path in specs.glob("**/*.antt"):
+        for record in RECORD.finditer(path.read_text(encoding="utf-8")):
+            found[record[1]] = frozenset(FIELD.findall(record[2]))
+    return found
+
+
 def calls(top: Path) -> list[Call]:
     found = []
     for crate in crates(top):
+        fields = records(top / "crates" / crate / "specs")
         names = public_names((top / "crates" / crate / "src" / "lib.rt").read_text(encoding="utf-8"))
         for path in sorted((top / "crates" / crate / "src").glob("**/*.rt")):
             if path.name == "tests.rt":
@@ -96,6 +110,7 @@ def calls(top: Path) -> list[Call]:
                 if (owner or name) in names:
                     head = re.split(r"\brequires\b|\bensures\b", text)[0]
                     clauses = frozenset(filter(None, CLAUSE.findall(text)))
+                    clauses = clauses.union(*(fields.get(record, ()) for record in UNNAMED.findall(text)))
                     found.append(Call(crate, owner, name, "&mut" in head, "Result<" in head.rpartition("->")[2], clauses))
     return found
 

@@ -39,7 +39,9 @@ pub trait Watched {
         ensures same { self.new ≡ self.old };
 }
 
-pub fn make(to: &mut Thing) -> Result<(), NoMemory> {
+pub fn make(to: &mut Thing) -> Result<(), NoMemory>
+    ensures { (more : ℕ) → Made more to.old to.new }
+{
     Ok(())
 }
 
@@ -47,13 +49,23 @@ pub fn hidden(to: &mut Thing) -> Result<(), NoMemory> {
     Ok(())
 }
 """
+MADE = """-- what a thing is made of
+pub record Made (more : ℕ)
+    (old new : Thing) : Type 0 where
+  pub kept : new ≡ old
+  -- nothing else
+  pub more_left : more ≡ 0
+
+pub record Other : Type 0 where
+  pub lost : ⊥
+"""
 PAGE = """# A page
 
 ## Safe and total
 
 | Calls | What stays |
 |---|---|
-| `Thing::add`, `make` of rv_low | all of it: `err` |
+| `Thing::add`, `make` of rv_low | all of it: `err`, and `kept` of `Made` |
 | `here` of rv_low | nothing: `lost` |
 | `Watched::seen` | all of it: `same` |
 | `Gone::call` | all of it: `err` |
@@ -72,12 +84,15 @@ class Calls(unittest.TestCase):
         source.mkdir(parents=True)
         (source / "lib.rt").write_text(LIBRARY, encoding="utf-8")
         (source / "parts.rt").write_text(PARTS, encoding="utf-8")
+        specs = self.top / "crates/rv_low/specs"
+        specs.mkdir()
+        (specs / "Made.antt").write_text(MADE, encoding="utf-8")
         (self.top / "crates.txt").write_text("# floors\nrv_low:\nrv_cli: rv_low\nother: rv_low\n", encoding="utf-8")
 
     def test_public_calls(self):
         found = {str(call): (call.lent and call.fails, sorted(call.clauses)) for call in safe_calls.calls(self.top)}
         self.assertEqual(found, {
-            "rv_low: here": (True, []), "rv_low: make": (True, []), "rv_low: Thing::add": (True, ["err", "ok"]),
+            "rv_low: here": (True, []), "rv_low: make": (True, ["kept", "more_left"]), "rv_low: Thing::add": (True, ["err", "ok"]),
             "rv_low: Thing::look": (False, []), "rv_low: Watched::seen": (True, ["same"]),
         })  # fmt: skip
 
