@@ -1,6 +1,7 @@
 #!/usr/bin/env bash
-# Runs the tests of the tools, the examples by the slow model, retrievals made to hurt a guarded judge, the checks of the pages, and
-# that of the definitions which docs/BELIEVE.md lists; this needs Python alone. Where PROGRAM is given, the examples, the worked runs,
+# Runs the tests of the tools, the examples by the slow model, retrievals made to hurt a guarded judge, the checks of the pages, that
+# of the definitions which docs/BELIEVE.md lists, and that of the texts which the gate refuses before it proves anything; this needs
+# Python alone, but the last looks at layouts only where the kit's `rt` is on the path. Where PROGRAM is given, the examples, the worked runs,
 # random scripts of fixed seeds, the command lines and the table of hostile use are run by it too, and AUDITOR, or the one beside it
 # in crates/, reads transcripts. Behind these it tells which crates' wrong bodies are to be tried again, which fails nothing.
 #
@@ -94,7 +95,7 @@ for it in tests/test_*.py; do
     part "$it" python3 -m unittest -q "$it"
 done
 for it in "fuzz/bounded_worst.py --tries 300" "gate_times check" "prover_times check" "check_pages.py --test" "check_pages.py" \
-    "believed.py --test" "believed.py --check"; do
+    "believed.py --test" "believed.py --check" crate_texts.py; do
     part "${it##*/}" ./$it
 done
 wait_below 1

@@ -10,7 +10,7 @@ from pathlib import Path
 
 TOOLS = Path(__file__).resolve().parents[1]
 PARTS = """fuzz/hostile_table.py worked/worked_runs.py fuzz/random_scripts.py worked/doc_examples.py worked/program_words.py worked/audit_texts.py
-    fuzz/bounded_worst.py gate_times prover_times check_pages.py believed.py mutants""".split()
+    fuzz/bounded_worst.py gate_times prover_times check_pages.py believed.py crate_texts.py mutants""".split()
 # Tells its words, and then what the case `NAME.says` has, with the status of `NAME.ends`.
 PART = """#!/bin/sh
 echo "${0##*/} $*" >> asked
@@ -53,10 +53,10 @@ class CheckTools(unittest.TestCase):
     def test_without_a_program(self):
         ran = self.check()
         self.assertEqual((ran.returncode, ran.stderr), (0, ""))
-        self.assertEqual(self.asked(), ["believed.py --check", "believed.py --test", "bounded_worst.py --tries 300", "check_pages.py ", "check_pages.py --test", "doc_examples.py ", "gate_times check", "mutants check", "prover_times check"])
+        self.assertEqual(self.asked(), ["believed.py --check", "believed.py --test", "bounded_worst.py --tries 300", "check_pages.py ", "check_pages.py --test", "crate_texts.py ", "doc_examples.py ", "gate_times check", "mutants check", "prover_times check"])
         *parts, last = ran.stdout.splitlines()
-        self.assertRegex(last, r"^12 passed, 0 failed in \d+ s$")
-        self.assertEqual(len(parts), 10)
+        self.assertRegex(last, r"^13 passed, 0 failed in \d+ s$")
+        self.assertEqual(len(parts), 11)
         self.assertIn("    2 passed  tests.test_one (", "\n".join(parts))
 
     def test_program_and_auditor(self):
@@ -65,7 +65,7 @@ class CheckTools(unittest.TestCase):
         for words, auditor in ((self.programs[:1], self.programs[1]), ([self.programs[0], other], other)):
             (self.tools / "asked").unlink(missing_ok=True)
             ran = self.check(*words, CHECK_ENDING="and so on", CHECK_JOBS="2")
-            self.assertRegex(ran.stdout.splitlines()[-1], r"^20 passed, 0 failed in \d+ s; and so on$")
+            self.assertRegex(ran.stdout.splitlines()[-1], r"^21 passed, 0 failed in \d+ s; and so on$")
             self.assertIn(f"audit_texts.py {auditor}", self.asked())
             self.assertIn(f"hostile_table.py {self.programs[0]}", self.asked())
             self.assertIn("1 passed  worked_runs.py, the program (", ran.stdout)
@@ -94,8 +94,8 @@ class CheckTools(unittest.TestCase):
         (self.tools / "tests/test_two.py").write_text(TEST.format(2), encoding="utf-8")
         ran = self.check(self.programs[0])
         self.assertEqual(ran.returncode, 1)
-        # 40 and 100 cases, 7 and the end of the tool, 4 tests, and twelve of one case each, of which three fail.
-        self.assertRegex(ran.stdout.splitlines()[-1], r"^157 passed, 8 failed in \d+ s$")
+        # 40 and 100 cases, 7 and the end of the tool, 4 tests, and thirteen of one case each, of which three fail.
+        self.assertRegex(ran.stdout.splitlines()[-1], r"^158 passed, 8 failed in \d+ s$")
         self.assertRegex(ran.stdout, r"FAILED: 3 of 40 in hostile_table\.py, the program \(\d+ s, status 1\), which wrote:\na case: status 3\n")
         self.assertRegex(ran.stdout, r"FAILED: 1 of 1 in audit_texts\.py, the auditor \(\d+ s, status 1\), which wrote:\nTraceback: no such file\n")
         self.assertRegex(ran.stdout, r"FAILED: 1 of 2 in tests\.test_two \(")
