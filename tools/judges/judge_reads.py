@@ -14,7 +14,7 @@ import sys
 from bisect import bisect_left, bisect_right
 from dataclasses import dataclass
 from itertools import combinations
-from typing import Callable, Iterator, NamedTuple
+from typing import Callable, Iterable, Iterator, NamedTuple
 
 if not __package__:  # run as a file: the other folders are found from tools/
     sys.path[0] += "/.."
@@ -288,64 +288,52 @@ def with_first(told: list[Told]) -> list[Told]:
     return [query for query in told if query.soon and query.rows]
 
 
+def table(title: str, columns: list[str], rows: Iterable[list[str]]) -> Iterator[str]:
+    yield from (title, "", "| " + " | ".join(columns) + " |", "|" + "---|" * len(columns))
+    yield from ("| " + " | ".join(cells) + " |" for cells in rows)
+
+
 def tables(runs: dict[tuple[int, int], list[Told]], steps: int) -> Iterator[str]:
-    names = ["planner", *JUDGES]
-    yield f"Reads in all, against the best path (--steps {steps}):"
-    yield ""
-    yield "| Rows, seed | best, reads | " + " | ".join(names) + " |"
-    yield "|---|---|" + "---|" * len(names)
-    for (rows, seed), told in runs.items():
-        best = whole(told, "best")
-        cells = [f"{whole(told, name) / best:.2f}" for name in names]
-        yield f"| {rows:,}, {seed} | {best:,} | " + " | ".join(cells) + " |"
-    yield ""
-    yield "Reads until the first row, over the queries for the first rows that have one, against the planner's:"
-    yield ""
-    names = ["best", *JUDGES]
-    yield "| Rows, seed | queries | planner, reads | " + " | ".join(names) + " | soonest path |"
-    yield "|---|---|---|" + "---|" * (len(names) + 1)
-    for (rows, seed), told in runs.items():
-        some = with_first(told)
+    beside, every = ["planner", *JUDGES], ["best", *JUDGES]
+    runs_named = [(f"{rows:,}, {seed}", told) for (rows, seed), told in runs.items()]
+
+    def in_all(name: str, told: list[Told]) -> list[str]:
+        return [name, f"{whole(told, 'best'):,}"] + [f"{whole(told, it) / whole(told, 'best'):.2f}" for it in beside]
+
+    def until_first(name: str, some: list[Told]) -> list[str]:
         planner = until(some, "planner", 1)
-        cells = [f"{until(some, name, 1) / planner:.2f}" for name in names] + [f"{sum(q.soonest for q in some) / planner:.2f}"]
-        yield f"| {rows:,}, {seed} | {len(some)} | {planner:,} | " + " | ".join(cells) + " |"
+        return [name, str(len(some)), f"{planner:,}"] + [f"{until(some, it, 1) / planner:.2f}" for it in every]
+
+    def with_soonest(name: str, some: list[Told]) -> list[str]:
+        return [*until_first(name, some), f"{sum(query.soonest for query in some) / until(some, 'planner', 1):.2f}"]
+
+    def all_of_first(name: str, some: list[Told]) -> list[str]:
+        return [name] + [f"{whole(some, it) / whole(some, 'best'):.2f}" for it in beside]
+
+    soon = [(name, [query for query in told if query.soon]) for name, told in runs_named]
+    title = f"Reads in all, against the best path (--steps {steps}):"
+    yield from table(title, ["Rows, seed", "best, reads", *beside], (in_all(*run) for run in runs_named))
     yield ""
-    yield "Reads until the first row or, where there is none, the end, over all queries for the first rows, against the planner's:"
+    title = "Reads until the first row, over the queries for the first rows that have one, against the planner's:"
+    with_rows = ((name, with_first(told)) for name, told in runs_named)
+    yield from table(title, ["Rows, seed", "queries", "planner, reads", *every, "soonest path"], (with_soonest(*run) for run in with_rows))
     yield ""
-    names = ["best", *JUDGES]
-    yield "| Rows, seed | queries | planner, reads | " + " | ".join(names) + " |"
-    yield "|---|---|---|" + "---|" * len(names)
-    for (rows, seed), told in runs.items():
-        some = [query for query in told if query.soon]
-        planner = until(some, "planner", 1)
-        cells = [f"{until(some, name, 1) / planner:.2f}" for name in names]
-        yield f"| {rows:,}, {seed} | {len(some)} | {planner:,} | " + " | ".join(cells) + " |"
+    title = "Reads until the first row or, where there is none, the end, over all queries for the first rows, against the planner's:"
+    yield from table(title, ["Rows, seed", "queries", "planner, reads", *every], (until_first(*run) for run in soon))
     yield ""
-    yield "Reads in all of the queries for the first rows, against the best path:"
+    title = "Reads in all of the queries for the first rows, against the best path:"
+    yield from table(title, ["Rows, seed", *beside], (all_of_first(*run) for run in soon))
     yield ""
-    names = ["planner", *JUDGES]
-    yield "| Rows, seed | " + " | ".join(names) + " |"
-    yield "|---|" + "---|" * len(names)
-    for (rows, seed), told in runs.items():
-        some = [query for query in told if query.soon]
-        cells = [f"{whole(some, name) / whole(some, 'best'):.2f}" for name in names]
-        yield f"| {rows:,}, {seed} | " + " | ".join(cells) + " |"
-    yield ""
-    yield from dearest(runs)
+    yield from dearest(runs_named)
 
 
-def dearest(runs: dict[tuple[int, int], list[Told]]) -> Iterator[str]:
+def dearest(runs: list[tuple[str, list[Told]]]) -> Iterator[str]:
     names = ["best", "planner", *JUDGES]
-    yield "Reads of the dearest query, against its table's pages, and the queries that read more than a guarded judge's may:"
-    yield ""
-    yield "| Rows, seed | " + " | ".join(names) + " |"
-    yield "|---|" + "---|" * len(names)
-    for (rows, seed), told in runs.items():
-        yield f"| {rows:,}, {seed} | " + " | ".join(f"{max(query.tables(name) for query in told):.2f}" for name in names) + " |"
-    every = [query for told in runs.values() for query in told]
-    yield "| all | " + " | ".join(f"{max(query.tables(name) for query in every):.2f}" for name in names) + " |"
-    over = [sum(query.reads[name].whole > query.most for query in every) for name in names]
-    yield f"| above the bound, of {len(every):,} | " + " | ".join(f"{count:,}" for count in over) + " |"
+    every = [query for _, told in runs for query in told]
+    worst = [[name] + [f"{max(query.tables(it) for query in told):.2f}" for it in names] for name, told in [*runs, ("all", every)]]
+    over = [f"{sum(query.reads[it].whole > query.most for query in every):,}" for it in names]
+    title = "Reads of the dearest query, against its table's pages, and the queries that read more than a guarded judge's may:"
+    yield from table(title, ["Rows, seed", *names], [*worst, [f"above the bound, of {len(every):,}", *over]])
 
 
 def verdicts(seed: int, rows: int, queries: int) -> float:

@@ -246,7 +246,7 @@ class Plan:
 
 class Engine(Database):
     """The database with cursors over plans. A log, if one is given, is a list to which each retrieval of any cursor adds
-    (item of FROM, kind, what) as `Retrieval.note` has them."""
+    (item of FROM, kind, what) as `Access.note` has them."""
 
     def __init__(self, judge=0, steps=1, plain=False, log=None, race=False):
         super().__init__()

@@ -1,11 +1,11 @@
 """A retrieval for which two indexes race, evaluated slowly by the rules in words (docs/LANGUAGE.md). Who uses it says what a
-row and an index are and who judges, by the calls at the end of `Retrieval` (model/retrieval.py).
+row and an index are and who judges, by the calls at the end of `Access` (model/retrieval.py).
 
 While no scan has completed, the first two scans that are not over are under way; once one has, and its list has a key, the
 first one that is not over. Their pieces come in turn. Here that is told of one piece at a time, from what was done before:
 which scans are over, and which one was given the last accepted piece."""
 
-from .retrieval import KeyList, Ruling, Scan, project
+from .retrieval import Access, KeyList, Scan, project
 
 TOGETHER = 2
 
@@ -18,24 +18,21 @@ def can_race(indexes, order, soon):
     return not order and not soon and not short and not covered and len(restricted) >= TOGETHER
 
 
-class Race:
+class Race(Access):
     """A race of the restricted ones of these indexes over a table of so many pages."""
 
     strategy = "background-only"
 
     def __init__(self, indexes, pages, counts):
-        self.pages, self.counts = pages, counts
+        super().__init__(pages, counts)
         planned = sorted((i for i in indexes if i.restricted), key=lambda i: i.estimate)
         self.scans = [Scan(i) for i in planned]
         self.ends = []  # the scans that are over, in the order in which they ended, each with its event
         self.served = None  # the scan that was given the last accepted piece
-        self.list = None  # the complete list
         self.guaranteed = pages
-        self.number = 1  # of the piece awaited
-        self.at, self.page, self.held = 0, 0, []  # the final stages
         self.control, self.last = "background", []
         self.told = []  # the scans whose beginning was told
-        self.note("event", self.control)
+        self.tell(self.control)
         self.tell_scans()
 
     # What is under way.
@@ -60,7 +57,7 @@ class Race:
         for scan in self.under_way():
             if scan not in self.told:
                 self.told.append(scan)
-                self.note("event", "scan " + scan.index.name)
+                self.tell("scan " + scan.index.name)
 
     @property
     def events(self):
@@ -74,33 +71,10 @@ class Race:
 
     # Pieces.
 
-    def awaits(self):
-        return self.turn() is not None
-
-    def take(self):
-        scan = self.turn()
-        if scan is None:
-            return None
-        if scan.held is None:
-            scan.held = self.read_leaf(scan.index, scan.place)
-        return (self.number, scan.held[0])
-
     def give(self, piece):
-        """Whether the piece was accepted; its keys are added."""
         scan = self.turn()
-        if scan is None or piece[0] != self.number or scan.held is None:
+        if not super().give(piece):
             return False
-        entries, following = scan.held
-        kept = [n for key, n in entries if scan.index.passes(key) and (self.list is None or self.list.may_have(n))]
-        scan.scanned += len(entries)
-        scan.kept += len(kept)
-        scan.keys += kept
-        scan.place, scan.held = following, None
-        self.number += 1
-        if following is None:
-            self.completed(scan)
-        else:
-            self.question(scan)
         self.served = scan
         self.tell_scans()
         return True
@@ -122,8 +96,7 @@ class Race:
         to cost."""
         cost = lambda s: project(s.index.estimate, s.scanned, s.kept)
         least = min([self.guaranteed] + [cost(other) for other in self.under_way() if other is not scan])
-        verdict = self.rule(cost(scan), least)
-        self.note("ruled", Ruling(scan.index.name, scan.scanned, scan.kept, scan.index.estimate, cost(scan), least, verdict))
+        verdict = self.verdict(scan, cost(scan), least)
         final = "final-table" if self.list is None else "final-list"
         if verdict == "drop":
             self.over(scan, "drop " + scan.index.name)
@@ -136,71 +109,11 @@ class Race:
 
     def over(self, scan, event):
         self.ends.append((scan, event))
-        self.note("event", event)
+        self.tell(event)
 
     def to(self, control):
-        self.control = control
         self.last.append(control)
-        self.note("event", control)
+        super().to(control)
 
-    # Steps.
-
-    def step(self):
-        """A row's number, None where no row came yet, or "end"."""
-        return {
-            "background": self.background,
-            "final-list": self.list_step,
-            "final-table": self.table_step,
-            "done": lambda: "end",
-        }[self.control]()
-
-    def background(self):
-        """The awaited piece is taken and given."""
-        self.give(self.take())
-
-    def list_step(self):
-        if self.at == len(self.list.keys):
-            self.to("done")
-            return "end"
-        number = self.list.keys[self.at]
-        self.at += 1
-        self.counts.fetches += 1
-        self.note("record", number)
-        return number if self.is_wanted(number) else None
-
-    def table_step(self):
-        while self.held:
-            number = self.held.pop(0)
-            if self.is_wanted(number):
-                return number
-        if self.page == self.pages:
-            self.to("done")
-            return "end"
-        self.counts.pages += 1
-        self.note("page", self.page)
-        self.held = self.page_rows(self.page)
-        self.page += 1
-        return None
-
-    def read_leaf(self, index, place):
-        self.counts.leaves += 1
-        read = index.leaf(place)
-        self.note("leaf", index)
-        return read
-
-    # What the user says.
-
-    def is_wanted(self, number):
-        """Whether the row qualifies."""
-        raise NotImplementedError
-
-    def page_rows(self, page):
-        """The numbers of a page's rows."""
-        raise NotImplementedError
-
-    def rule(self, projected, guaranteed):
-        """The judge's verdict: "go on", "drop", "stop" or "end"."""
-        raise NotImplementedError
-
-    def note(self, kind, what):
-        """Who wants to watch is told what happens, as by a retrieval."""
+    def tell(self, event):
+        self.note("event", event)

@@ -1,6 +1,6 @@
 """One retrieval, evaluated slowly by the rules in words: its strategy and scans, its course, its pieces and its steps. The
 rules stand in docs/LANGUAGE.md. Who uses it says what a row and an index are and who judges, by the calls at the end of
-`Retrieval`.
+`Access`, which is what a retrieval, a race and a union have in common.
 
 An index has `name`, `columns`, `estimate`, `exact`, `restricted` and `covers`, and the calls `passes(key)` and `leaf(at)`."""
 from dataclasses import dataclass
@@ -68,17 +68,157 @@ class Walk:
         self.place, self.more = None, True
 
 
-class Retrieval:
+class Access:
+    """Rows by key lists of a table of so many pages: how pieces are taken and given, and the final stages."""
+
+    def __init__(self, pages, counts):
+        self.pages, self.counts = pages, counts
+        self.delivered = set()
+        self.list = None  # the complete list
+        self.number = 1  # of the piece awaited
+        self.at, self.page, self.held = 0, 0, []  # the final stages
+
+    def tell(self, event):
+        self.events.append(event)
+        self.note("event", event)
+
+    def to(self, control):
+        self.control = control
+        self.tell(control)
+
+    # Pieces.
+
+    def turn(self):
+        """The scan whose piece is awaited, if one is."""
+        raise NotImplementedError
+
+    def awaits(self):
+        return self.turn() is not None
+
+    def take(self):
+        """The awaited piece, which is a leaf of the scan; it is read where it was not yet."""
+        scan = self.turn()
+        if scan is None:
+            return None
+        if scan.held is None:
+            scan.held = self.read_leaf(scan.index, scan.place)
+        return (self.number, scan.held[0])
+
+    def give(self, piece):
+        """Whether the piece was accepted; its keys are added. That of another number is not, nor one that was never taken."""
+        scan = self.turn()
+        if scan is None or piece[0] != self.number or scan.held is None:
+            return False
+        entries, following = scan.held
+        kept = self.fresh([n for key, n in entries if scan.index.passes(key)])
+        scan.scanned += len(entries)
+        scan.kept += len(kept)
+        scan.keys += kept
+        scan.place, scan.held = following, None
+        self.number += 1
+        if following is None:
+            self.completed(scan)
+        else:
+            self.question(scan)
+        return True
+
+    def fresh(self, numbers):
+        """Which of these keys are added."""
+        return [n for n in numbers if self.list is None or self.list.may_have(n)]
+
+    def completed(self, scan):
+        """The scan has read its last leaf."""
+        raise NotImplementedError
+
+    def question(self, scan):
+        """The judge is asked of a scan that goes on, and obeyed."""
+        raise NotImplementedError
+
+    def verdict(self, scan, projected, guaranteed):
+        """What the judge answers of the scan."""
+        verdict = self.rule(projected, guaranteed)
+        self.note("ruled", Ruling(scan.index.name, scan.scanned, scan.kept, scan.index.estimate, projected, guaranteed, verdict))
+        return verdict
+
+    # Steps.
+
+    def step(self):
+        """A row's number, None where no row came yet, or "end"."""
+        return self.stages()[self.control]()
+
+    def stages(self):
+        """What a step does, by the control."""
+        return {"background": self.background, "final-list": self.list_step, "final-table": self.table_step, "done": lambda: "end"}
+
+    def background(self):
+        """The awaited piece is taken and given, where one is."""
+        piece = self.take()
+        if piece is not None:
+            self.give(piece)
+
+    def list_step(self):
+        keys = self.list.keys
+        while self.at < len(keys) and keys[self.at] in self.delivered:
+            self.at += 1
+        if self.at == len(keys):
+            self.to("done")
+            return "end"
+        number = keys[self.at]
+        self.at += 1
+        return number if self.fetch(number) else None
+
+    def table_step(self):
+        while self.held:
+            number = self.held.pop(0)
+            if number not in self.delivered and self.is_wanted(number):
+                return number
+        if self.page == self.pages:
+            self.to("done")
+            return "end"
+        self.counts.pages += 1
+        self.note("page", self.page)
+        self.held = self.page_rows(self.page)
+        self.page += 1
+        return None
+
+    def fetch(self, number):
+        """Whether the row qualifies, which is read."""
+        self.counts.fetches += 1
+        self.note("record", number)
+        return self.is_wanted(number)
+
+    def read_leaf(self, index, place):
+        self.counts.leaves += 1
+        read = index.leaf(place)
+        self.note("leaf", index)
+        return read
+
+    # What the user says.
+
+    def is_wanted(self, number):
+        """Whether the row qualifies."""
+        raise NotImplementedError
+
+    def page_rows(self, page):
+        """The numbers of a page's rows."""
+        raise NotImplementedError
+
+    def rule(self, projected, guaranteed):
+        """The judge's verdict: "go on", "drop", "stop" or "end"."""
+        raise NotImplementedError
+
+    def note(self, kind, what):
+        """Who wants to watch is told what happens: ("event", its text), ("page", number), ("leaf", index), ("record", number)
+        and ("ruled", a Ruling)."""
+
+
+class Retrieval(Access):
     """A retrieval by these indexes over a table of so many pages, in the order of these columns (none: any), with the first
     rows wanted soon or all rows soon."""
 
     def __init__(self, indexes, pages, order, soon, counts):
-        self.pages, self.counts = pages, counts
-        self.delivered = set()
-        self.list = None  # the complete list
+        super().__init__(pages, counts)
         self.lent, self.borrowed = None, 0  # which list is borrowed from, and how many of its keys were
-        self.number = 1  # of the piece awaited
-        self.at, self.page, self.held = 0, 0, []  # the final stages
         self.events, self.control = [], None
         self.choose(indexes, order, soon)
         self.to(self.first())
@@ -128,17 +268,6 @@ class Retrieval:
 
     # The course.
 
-    def tell(self, event):
-        self.events.append(event)
-        self.note("event", event)
-
-    def to(self, control):
-        self.control = control
-        self.tell(control)
-
-    def in_background(self):
-        return self.control in ("building", "background")
-
     def begin(self):
         """The next background scan begins, where one is planned."""
         self.scan = None
@@ -159,8 +288,7 @@ class Retrieval:
         else:
             self.to("final-table" if self.list is None else "final-list")
 
-    def completed(self):
-        scan = self.scan
+    def completed(self, scan):
         self.list = KeyList(sorted(scan.keys))
         self.guaranteed = min(self.guaranteed, len(scan.keys))
         self.tell(f"list {scan.index.name} {len(scan.keys)}")
@@ -180,58 +308,15 @@ class Retrieval:
             else:
                 self.ends(verdict)
 
-    # The background: pieces.
+    def turn(self):
+        return self.scan if self.control in ("building", "background") else None
 
-    def awaits(self):
-        return self.in_background() and self.scan is not None
-
-    def take(self):
-        """The awaited piece, which is a leaf of the scan; it is read where it was not yet."""
-        if not self.awaits():
-            return None
-        scan = self.scan
-        if scan.held is None:
-            scan.held = self.read_leaf(scan.index, scan.place)
-        return (self.number, scan.held[0])
-
-    def give(self, piece):
-        """Whether the piece was accepted; its keys are added. That of another number is not, nor one that was never taken."""
-        if not self.awaits() or piece[0] != self.number or self.scan.held is None:
-            return False
-        scan, (entries, following) = self.scan, self.scan.held
-        kept = [n for key, n in entries if scan.index.passes(key) and (self.list is None or self.list.may_have(n))]
-        scan.scanned += len(entries)
-        scan.kept += len(kept)
-        scan.keys += kept
-        scan.place, scan.held = following, None
-        self.number += 1
-        if following is None:
-            self.completed()
-        elif not self.at_once:
+    def question(self, scan):
+        if not self.at_once:
             projected = project(scan.index.estimate, scan.scanned, scan.kept)
-            verdict = self.rule(projected, self.guaranteed)
-            self.note("ruled", Ruling(scan.index.name, scan.scanned, scan.kept, scan.index.estimate, projected, self.guaranteed, verdict))
-            self.obey(verdict)
-        return True
-
-    def background(self):
-        """A background step: the awaited piece is taken and given."""
-        piece = self.take()
-        if piece is not None:
-            self.give(piece)
+            self.obey(self.verdict(scan, projected, self.guaranteed))
 
     # The foreground.
-
-    def fetch(self, number):
-        self.counts.fetches += 1
-        self.note("record", number)
-        return self.is_wanted(number)
-
-    def read_leaf(self, index, place):
-        self.counts.leaves += 1
-        read = index.leaf(place)
-        self.note("leaf", index)
-        return read
 
     def remember(self, number):
         self.delivered.add(number)
@@ -239,20 +324,8 @@ class Retrieval:
             self.tell("full")
             self.to("background" if self.strategy == "fast-first" else "foreground")
 
-    def step(self):
-        """A row's number, None where no row came yet, or "end"."""
-        return {
-            "building": self.building_step,
-            "background": self.background_step,
-            "foreground": self.walk_step,
-            "final-list": self.list_step,
-            "final-table": self.table_step,
-            "done": lambda: "end",
-        }[self.control]()
-
-    def background_step(self):
-        self.background()
-        return None
+    def stages(self):
+        return {**super().stages(), "building": self.building_step, "foreground": self.walk_step}
 
     def building_step(self):
         return self.borrow_step() if self.strategy == "fast-first" else self.walk_step()
@@ -267,7 +340,7 @@ class Retrieval:
         while self.borrowed < len(keys) and keys[self.borrowed] in self.delivered:
             self.borrowed += 1
         if self.borrowed == len(keys):
-            return self.background_step()
+            return self.background()
         number = keys[self.borrowed]
         self.borrowed += 1
         if not self.fetch(number):
@@ -295,49 +368,6 @@ class Retrieval:
         walk.held, walk.place = self.read_leaf(walk.index, walk.place)
         walk.more = walk.place is not None
         return None
-
-    def list_step(self):
-        keys = self.list.keys
-        while self.at < len(keys) and keys[self.at] in self.delivered:
-            self.at += 1
-        if self.at == len(keys):
-            self.to("done")
-            return "end"
-        number = keys[self.at]
-        self.at += 1
-        return number if self.fetch(number) else None
-
-    def table_step(self):
-        while self.held:
-            number = self.held.pop(0)
-            if number not in self.delivered and self.is_wanted(number):
-                return number
-        if self.page == self.pages:
-            self.to("done")
-            return "end"
-        self.counts.pages += 1
-        self.note("page", self.page)
-        self.held = self.page_rows(self.page)
-        self.page += 1
-        return None
-
-    # What the user says.
-
-    def is_wanted(self, number):
-        """Whether the row qualifies."""
-        raise NotImplementedError
-
-    def page_rows(self, page):
-        """The numbers of a page's rows."""
-        raise NotImplementedError
-
-    def rule(self, projected, guaranteed):
-        """The judge's verdict: "go on", "drop", "stop" or "end"."""
-        raise NotImplementedError
-
-    def note(self, kind, what):
-        """Who wants to watch is told what happens: ("event", its text), ("page", number), ("leaf", index), ("record", number)
-        and ("ruled", a Ruling)."""
 
 
 def begins_with(columns, order):

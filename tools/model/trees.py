@@ -123,3 +123,16 @@ class Overlaid:
         count, exact = self.below.estimate(bounds)
         inside = lambda entries: sum(bounds.side(key) == 0 for key, _ in entries)
         return count + inside(self.added) - (inside(self.taken) if exact else 0), exact
+
+
+def leaf_in(leaves, side, at):
+    """The entries in a range of a leaf, and the number of the next one where that may have more; `side` tells of a key whether it is
+    before the range (below 0), in it (0) or behind it. The first reading (None) is of the last leaf whose first key is before
+    the range, or of the first leaf."""
+    begins = lambda i: side(leaves[i][0][0])
+    if at is None:
+        at = 0
+        while at + 1 < len(leaves) and begins(at + 1) < 0:
+            at += 1
+    inside = [entry for entry in leaves[at] if side(entry[0]) == 0]
+    return inside, at + 1 if at + 1 < len(leaves) and begins(at + 1) <= 0 else None

@@ -27,7 +27,7 @@ if not __package__:  # run as a file: the other folders are found from tools/
 
 from model.race import Race, can_race
 from model.retrieval import LEAF, PAGE, Counts, Retrieval
-from model.trees import Tree
+from model.trees import Tree, leaf_in
 from model.union import Union, can_unite
 from tables import try_joins
 
@@ -123,16 +123,7 @@ class Index:
         return all(in_span(values[c], span) for c, span in self.part.items())
 
     def leaf(self, at):
-        """The entries in the range of a leaf, and the number of the next one where that may have more. The first reading
-        is of the last leaf whose first key is before the range, or of the first leaf."""
-        first_side = lambda i: self.side(self.leaves[i][0][0])
-        if at is None:
-            at = 0
-            while at + 1 < len(self.leaves) and first_side(at + 1) < 0:
-                at += 1
-        inside = [e for e in self.leaves[at] if self.side(e[0]) == 0]
-        more = at + 1 < len(self.leaves) and first_side(at + 1) <= 0
-        return inside, at + 1 if more else None
+        return leaf_in(self.leaves, self.side, at)
 
 
 # The judges.

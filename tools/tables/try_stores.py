@@ -15,7 +15,6 @@ The answers are found by the rules in words, with dictionaries and sorted lists,
   list      small up to 20 keys, allocated up to 1,024, spilled above; pushed from above down to 0, ascending once finished
   probes    of the rows behind a list, how many it may have: none up to 1,024 keys, else those whose bit of 65,536 is set
   delivered up to 1,024 rows"""
-import argparse
 import sys
 
 if not __package__:  # run as a file: the other folders are found from tools/
@@ -23,6 +22,7 @@ if not __package__:  # run as a file: the other folders are found from tools/
 
 from ending import end
 from tables import try_paged, try_pieces, try_scans, try_trees
+from tables.lines import write
 
 GOLDEN = 0x9E37_79B9_7F4A_7C15
 
@@ -216,17 +216,14 @@ def lines():
             yield f"{word}: {text}", find(text)
 
 
+def write_more():
+    for part in (try_trees, try_paged, try_scans, try_pieces):
+        part.write()
+    print(VIEWS, end="")
+
+
 def main():
-    parser = argparse.ArgumentParser(description=__doc__, formatter_class=argparse.RawDescriptionHelpFormatter)
-    parser.add_argument("--lines", action="store_true", help="the lines that the program reads")
-    asked = parser.parse_args()
-    for line, found in lines():
-        print(line if asked.lines else f"{line};{found}")
-    if not asked.lines:
-        for part in (try_trees, try_paged, try_scans, try_pieces):
-            part.write()
-        print(VIEWS, end="")
-    return 0
+    return write(__doc__, lines(), write_more)
 
 
 if __name__ == "__main__":

@@ -6,13 +6,13 @@ restriction_table.py), and
   offers  an order value and a value returned of two offers, and how they are ordered
 
 whose answers were found by hand."""
-import argparse
 import sys
 
 if not __package__:  # run as a file: the other folders are found from tools/
     sys.path[0] += "/.."
 
 from ending import end
+from tables.lines import write
 from tables.restriction_table import lines as lines_of_values
 
 # The tokens that a text is cut into: a word as it is, an integer behind #, a text behind ', a symbol by its name.
@@ -84,12 +84,7 @@ def lines():
 
 
 def main():
-    parser = argparse.ArgumentParser(description=__doc__, formatter_class=argparse.RawDescriptionHelpFormatter)
-    parser.add_argument("--lines", action="store_true", help="the lines that the program reads")
-    asked = parser.parse_args()
-    for line, found in lines():
-        print(line if asked.lines else f"{line};{found}")
-    return 0
+    return write(__doc__, lines())
 
 
 if __name__ == "__main__":

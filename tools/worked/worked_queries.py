@@ -19,7 +19,7 @@ import re
 from typing import Callable, Iterable, Iterator
 
 from model.retrieval import Counts, Retrieval
-from model.trees import Tree
+from model.trees import Tree, leaf_in
 from model.union import Union
 from tables import restriction_table as restrictions
 from tables import try_joins
@@ -167,13 +167,7 @@ class RestrictedIndex:
         return restrictions.passes(self.groups, self.names, row) == "yes"
 
     def leaf(self, at):
-        first_side = lambda i: self.side(self.leaves[i][0][0])
-        if at is None:
-            at = 0
-            while at + 1 < len(self.leaves) and first_side(at + 1) < 0:
-                at += 1
-        inside = [e for e in self.leaves[at] if self.side(e[0]) == 0]
-        return inside, at + 1 if at + 1 < len(self.leaves) and first_side(at + 1) <= 0 else None
+        return leaf_in(self.leaves, self.side, at)
 
 
 class Rows:
