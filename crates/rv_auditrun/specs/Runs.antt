@@ -19,4 +19,5 @@ IsJudgedLegal script transcript =
 
 -- LAW: what a run wrote with status 0 is judged legal.
 abbrev pub RunIsJudgedLegal : List Entry → Type 0
-RunIsJudgedLegal history = (script transcript : List ℕ) → Wrote script transcript history → IsJudgedLegal script transcript
+RunIsJudgedLegal history =
+    (script transcript : List ℕ) → Wrote script transcript history → IsJudgedLegal script transcript

@@ -44,8 +44,8 @@ pub record AskService (words : List (List ℕ)) : Type 0 where
 abbrev pub AreWholeLines : List ℕ → Type 0
 AreWholeLines bytes = (bytes ≡ []) ⊎ ((front : List ℕ) × (bytes ≡ front ++ 10 ∷ []))
 
--- THE LINES THAT WERE SERVED: these bytes, the first that were taken, write a script of which this holds. What was taken
--- behind them was not served. Only the last line of all may lack its end.
+-- THE LINES THAT WERE SERVED: these bytes, the first that were taken, write a script of which this holds. What was
+-- taken behind them was not served. Only the last line of all may lack its end.
 pub record Serves (left after : Option (List ℕ)) (P : Script → Type 0) : Type 0 where
   pub bytes : List ℕ
   pub behind : List ℕ

@@ -62,16 +62,16 @@ given_by (moves ∷ calls) = given_by calls + given_in moves
 abbrev pub spent : Shown → Planned → ℕ
 spent shown p = reads p.reads + plan_effort shown p
 
--- LAW: they come to no more than before, but for one for each foreground step for which no memory was found, and one for
--- each piece that was taken and not given
+-- LAW: they come to no more than before, but for one for each foreground step for which no memory was found, and one
+-- for each piece that was taken and not given
 abbrev pub MovesSpend : Type 0
 MovesSpend =
     (moves : List Move) (would : ℕ → Facts → Ruling) (shown : Shown) (old new : Ruled)
     → MovesByAll moves would shown old new → IsAlone old.plan
     → spent shown new.plan + given_in moves ≤ spent shown old.plan + lost_in moves + taken_in moves
 
--- LAW: OVER ITS WHOLE LIFE a cursor over one FROM item reads at most the bound that it had at OPEN, but for these; whatever
--- calls come, and whatever judges rule
+-- LAW: OVER ITS WHOLE LIFE a cursor over one FROM item reads at most the bound that it had at OPEN, but for these;
+-- whatever calls come, and whatever judges rule
 abbrev pub LifeIsBounded : Type 0
 LifeIsBounded =
     (s : Select) (indexes : List IndexDef) (calls : List (List Move)) (opened now : Held)
@@ -111,8 +111,8 @@ FetchEndsSoon =
 pub record HasMet (rows : List ℕ) (u : Unioned) (shown : Shown) : Type 0 where
   pub met : (n : ℕ) → meets_any u.plans shown u.snap n ≡ true → has_key n rows ≡ true
 
--- LAW: WHERE A PIECE COMPLETES THE LIST OF A UNION, it has at most as many keys to fetch as there are different rows that
--- meet some member: a list that has each of these is no shorter
+-- LAW: WHERE A PIECE COMPLETES THE LIST OF A UNION, it has at most as many keys to fetch as there are different rows
+-- that meet some member: a list that has each of these is no shorter
 abbrev pub ListIsFew : Type 0
 ListIsFew =
     (would : ℕ → Facts → Ruling) (state after : ℕ) (shown : Shown) (rows : List ℕ) (piece : Pieced) (old new : Unioned)
@@ -126,8 +126,8 @@ IsListing (Racing r) keys = ⊥
 IsListing (Uniting u) keys = (u.value.union.control ≡ FinalList) × (keys_work u.value.union ≡ keys)
 
 -- LAW: from then on a cursor over one FROM item that a union reads reads at most one for each key that is left, and one
--- where a row is held, but for one for each foreground step for which no memory was found, and one for each piece that was
--- taken and not given
+-- where a row is held, but for one for each foreground step for which no memory was found, and one for each piece that
+-- was taken and not given
 abbrev pub ListReadsFew : Type 0
 ListReadsFew =
     (moves : List Move) (would : ℕ → Facts → Ruling) (shown : Shown) (old new : Ruled) (keys : ℕ)

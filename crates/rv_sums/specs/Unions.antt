@@ -11,8 +11,8 @@ use Rattle.rv_bounded.specs.Calls.{Call, lost_by}
 use Rattle.rv_bounded.specs.Unions.{UnionDoesCall}
 use Rattle.rv_sums.specs.Sums.{HasMet}
 
--- a call of a union under some judge, which leaves what is asked and the members; what it then holds was drawn from what
--- the reader shows
+-- a call of a union under some judge, which leaves what is asked and the members; what it then holds was drawn from
+-- what the reader shows
 pub record UnionCalled (call : Call) (shown : Shown) (old new : Unioned) : Type 0 where
   pub would : ℕ → Facts → Ruling
   pub does : UnionDoesCall call would old new
@@ -25,9 +25,9 @@ UnionLives [] shown old new = new ≡ old
 UnionLives (call ∷ calls) shown old new =
     (mid : Unioned) × UnionLives calls shown old mid × UnionCalled call shown mid new
 
--- LAW: OVER ITS WHOLE LIFE A UNION FETCHES AT MOST AS MANY RECORDS AS THERE ARE DIFFERENT ROWS that meet some member, but
--- for one for each call for which no memory was found; whatever calls come, in whatever order, and whatever judges rule: a
--- list that has each of these rows is no shorter
+-- LAW: OVER ITS WHOLE LIFE A UNION FETCHES AT MOST AS MANY RECORDS AS THERE ARE DIFFERENT ROWS that meet some member,
+-- but for one for each call for which no memory was found; whatever calls come, in whatever order, and whatever judges
+-- rule: a list that has each of these rows is no shorter
 abbrev pub UnionsFetchFew : Type 0
 UnionsFetchFew =
     (table snap : ℕ) (only : List (List Atom)) (members : List ScanPlan) (cursor opening pages : ℕ) (calls : List Call)

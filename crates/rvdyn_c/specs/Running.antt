@@ -24,15 +24,16 @@ pub record AreFront (bytes whole : List ℕ) : Type 0 where
   pub rest : List ℕ
   pub is : whole ≡ bytes ++ rest
 
--- the limit that a script passes: it has too many bytes, or its first fault is that there are too many lines, or a line too long
+-- the limit that a script passes: it has too many bytes, or its first fault is that there are too many lines, or a line
+-- too long
 abbrev pub Passes : List ℕ → Over → Type 0
 Passes script over.Bytes = 16777216 < length script
 Passes script over.Lines = HasTooMany script
 Passes script (over.Line line) = HasFirst script (faults.TooLong line)
 
--- HOW A RUN ENDS, by its status, and what it tells: the transcript of all calls in the script's order; where a call found no memory
--- that of the calls before it, or nothing; where the transcript found none its front; of a script that has a fault or passes a limit
--- the words for that. It ends in no other way.
+-- HOW A RUN ENDS, by its status, and what it tells: the transcript of all calls in the script's order; where a call
+-- found no memory that of the calls before it, or nothing; where the transcript found none its front; of a script that
+-- has a fault or passes a limit the words for that. It ends in no other way.
 abbrev pub Ends : Status → List ℕ → List ℕ → Type 0
 Ends statuses.Done script told = Transcribes script IsInOrder (λ transcript. told ≡ transcript)
 Ends statuses.Memory script told = (told ≡ []) ⊎ Transcribes script IsFrontInOrder (λ transcript. told ≡ transcript)
@@ -51,8 +52,8 @@ told_of status written = written
 abbrev pub Holds : List ℕ → List ℕ → List ℕ → Type 0
 Holds old new told = new ≡ take (length old) told ++ drop (length told) old
 
--- THE CALL: the script was run, the answer is the code of the status with which that ended, the buffer holds what is told of it, and
--- the count is the length of that.
+-- THE CALL: the script was run, the answer is the code of the status with which that ended, the buffer holds what is
+-- told of it, and the count is the length of that.
 pub record Runs (script old new : List ℕ) (count answer : ℕ) : Type 0 where
   pub status : Status
   pub told : List ℕ
