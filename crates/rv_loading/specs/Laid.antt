@@ -47,8 +47,8 @@ abbrev pub may_index : ℕ → List ℕ → Bool
 may_index width [] = true
 may_index width (c ∷ cs) = nat_lt c width && (not (list_any (nat_eq c) cs) && may_index width cs)
 
--- the next index of the schema is over a table that is there and over one to four columns of it, and no older snapshot is
--- kept
+-- the next index of the schema is over a table that is there and over one to four columns of it, and no older snapshot
+-- is kept
 pub record CanIndex (schema : Schema) (layout : Layout) : Type 0 where
   pub table : (over_at schema.indexes layout.indexes).table < layout.tables
   pub alone : layout.horizon ≡ layout.newest

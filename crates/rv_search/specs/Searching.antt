@@ -27,7 +27,15 @@ use Rattle.rv_search.specs.Named.{columns_named}
 -- WHAT A SEARCH ASKS: the rows of a table at a snapshot for which a restriction is True, in any order. The columns
 -- that the restriction names are needed, and all rows are wanted soon.
 abbrev pub search_of : ℕ → ℕ → List (List Atom) → List (ℕ × List ℕ) → Query
-search_of table snap only indexes = record { table = table; snap = snap; only = only; indexes = indexes; need = columns_named only; order = []; goal = TotalTime }
+search_of table snap only indexes = record {
+  table = table;
+  snap = snap;
+  only = only;
+  indexes = indexes;
+  need = columns_named only;
+  order = [];
+  goal = TotalTime;
+}
 
 -- one of some indexes narrows a search: the restriction gives a range of it
 abbrev pub any_narrows : List (List Atom) → List (ℕ × List ℕ) → Bool
@@ -84,18 +92,21 @@ StepsAll (fg ∷ fgs) would shown old new =
     × StepsAs would mid.judge new.judge shown mid.counts new.counts fg mid.retrieval new.retrieval
 
 -- such steps lead from one retrieval to another
-pub record Goes (would : ℕ → Facts → Ruling) (state after : ℕ) (shown : Shown) (c d : Counts) (old new : Shape) : Type 0 where
+pub record Goes (would : ℕ → Facts → Ruling) (state after : ℕ) (shown : Shown) (c d : Counts)
+    (old new : Shape) : Type 0 where
   pub answers : List (Step Record)
   pub made : StepsAll answers would shown (searched old state c) (searched new after d)
 
 -- somewhere, and there the judge stands
-pub record GoesSome (would : ℕ → Facts → Ruling) (state after : ℕ) (shown : Shown) (c : Counts) (old : Shape) : Type 0 where
+pub record GoesSome (would : ℕ → Facts → Ruling) (state after : ℕ) (shown : Shown) (c : Counts)
+    (old : Shape) : Type 0 where
   pub last : Shape
   pub counts : Counts
   pub goes : Goes would state after shown c counts old last
 
 -- to the end, which the last one found
-pub record GoesOut (would : ℕ → Facts → Ruling) (state after : ℕ) (shown : Shown) (c d : Counts) (old : Shape) : Type 0 where
+pub record GoesOut (would : ℕ → Facts → Ruling) (state after : ℕ) (shown : Shown) (c d : Counts)
+    (old : Shape) : Type 0 where
   pub before : List (Step Record)
   pub last : Shape
   pub made : StepsAll (End ∷ before) would shown (searched old state c) (searched last after d)
@@ -112,9 +123,10 @@ pub record Ran (would : ℕ → Facts → Ruling) (state after : ℕ) (shown : S
   pub opened : Opened query shown 0 0 begun
   pub goes : GoesSome would state after shown counts begun
 
--- A SEARCH TO ITS END, which read leaves alone at opening, and where no index is short nothing, and then what these steps
--- read
-pub record RanOut (would : ℕ → Facts → Ruling) (state after : ℕ) (shown : Shown) (c d : Counts) (query : Query) : Type 0 where
+-- A SEARCH TO ITS END, which read leaves alone at opening, and where no index is short nothing, and then what these
+-- steps read
+pub record RanOut (would : ℕ → Facts → Ruling) (state after : ℕ) (shown : Shown) (c d : Counts)
+    (query : Query) : Type 0 where
   pub begun : Shape
   pub counts : Counts
   pub only : OnlyLeaves c counts
@@ -124,7 +136,8 @@ pub record RanOut (would : ℕ → Facts → Ruling) (state after : ℕ) (shown 
   pub goes : GoesOut would state after shown counts d begun
 
 -- and what is found is fetched, so many records at most
-pub record RanFetched (most : ℕ) (would : ℕ → Facts → Ruling) (state after : ℕ) (shown : Shown) (c d : Counts) (query : Query) : Type 0 where
+pub record RanFetched (most : ℕ) (would : ℕ → Facts → Ruling) (state after : ℕ) (shown : Shown) (c d : Counts)
+    (query : Query) : Type 0 where
   pub counts : Counts
   pub ran : RanOut would state after shown c counts query
   pub fetched : OnlyRecords most counts d

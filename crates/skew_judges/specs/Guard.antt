@@ -1,5 +1,5 @@
--- A guard around a judge: what it asks of a scan whatever the judge answers, and what a judge keeps to under which a scan
--- that is given up has cost little.
+-- A guard around a judge: what it asks of a scan whatever the judge answers, and what a judge keeps to under which a
+-- scan that is given up has cost little.
 use Rattle.std.specs.Prelude.{◌≡◌, ℕ, zero, suc, ◌+◌, ◌-◌, ◌*◌, ◌/◌, ◌^◌, ◌<◌, ◌≤◌, ◌==◌, ◌&&◌, ◌||◌, Bool, true, false, max, min, nat_le, if◌then◌else◌}
 use Rattle.rv_judge.specs.declared.judging.Facts.{Facts}
 use Rattle.rv_judge.specs.declared.judging.Verdict.{Verdict}
@@ -36,8 +36,8 @@ keys_before facts =
 abbrev pub listed : Facts → ℕ
 listed facts = facts.kept + keys_before facts
 
--- THE RULE. A scan is dropped where the leaves that it has read beside one come to its share, or the keys that are listed
--- to the guarantee. Nobody is asked then.
+-- THE RULE. A scan is dropped where the leaves that it has read beside one come to its share, or the keys that are
+-- listed to the guarantee. Nobody is asked then.
 abbrev pub is_sunk : Facts → Bool
 is_sunk facts = nat_le facts.guaranteed (parts facts.scan * (facts.spent - 1))
 
@@ -65,14 +65,14 @@ goes_on Continue = true
 goes_on AbandonForeground = true
 goes_on verdict = false
 
--- A scan has read no more than one leaf and its share, and the keys that are listed, or what is projected, are less than
--- the guarantee.
+-- A scan has read no more than one leaf and its share, and the keys that are listed, or what is projected, are less
+-- than the guarantee.
 pub record Keeps (facts : Facts) : Type 0 where
   pub sunk : facts.spent ≤ 1 + share facts.guaranteed facts.scan
   pub few : min (listed facts) facts.projected < facts.guaranteed
 
--- WHICH JUDGES ARE BOUNDED: at whatever question, a scan that may go on keeps to its share and to few keys, and a foreground
--- that goes on beside it has few keys to fetch.
+-- WHICH JUDGES ARE BOUNDED: at whatever question, a scan that may go on keeps to its share and to few keys, and a
+-- foreground that goes on beside it has few keys to fetch.
 abbrev pub IsBounded : (ℕ → Facts → Ruling) → Type 0
 IsBounded would =
     (state : ℕ) (facts : Facts)
