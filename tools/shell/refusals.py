@@ -240,11 +240,15 @@ class Reasons:
 
     def when(self, other: Transaction) -> str:
         """From when on a row that an active transaction has may be written."""
+        return self.ends(other, "keeps the row", "; only a transaction that begins behind that can write the row", "the row is free")
+
+    def ends(self, other: Transaction, keeps: str, where_committed: str, is_free: str) -> str:
+        """How an active transaction ends, and what is free then."""
         if other.ended is None:
-            return "that transaction does not end, and keeps the row"
+            return f"that transaction does not end, and {keeps}"
         if self.committed(other):
-            return f"it commits in {self.line(other.ended)}; only a transaction that begins behind that can write the row"
-        return f"it is rolled back in {self.line(other.ended)}; from there on the row is free"
+            return f"it commits in {self.line(other.ended)}{where_committed}"
+        return f"it is rolled back in {self.line(other.ended)}; from there on {is_free}"
 
     def of_changed(self, said: tuple, number: int, by: int) -> list[str]:
         key, at = (said[1], number), self.commits[by]
@@ -290,11 +294,7 @@ class Reasons:
 
     def when_free(self, other: Transaction) -> str:
         """From when on a key of an active transaction may be free."""
-        if other.ended is None:
-            return "that transaction does not end, and keeps the key unless it gives it up"
-        if self.committed(other):
-            return f"it commits in {self.line(other.ended)}"
-        return f"it is rolled back in {self.line(other.ended)}; from there on the key is free"
+        return self.ends(other, "keeps the key unless it gives it up", "", "the key is free")
 
     def of_equal_rows(self, said: tuple, number: int) -> list[str]:
         """Two rows over which a unique index was to be made."""
