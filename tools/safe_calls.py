@@ -22,7 +22,7 @@ TICKED = re.compile(r"`([^`]+)`")
 CLAUSE = re.compile(r"ensures (?:(\w+) )?\{")
 UNNAMED = re.compile(r"ensures \{ (?:\([^)]*\) → )*([A-Z]\w*)\b")
 RECORD = re.compile(r"^pub record (\w+)(.*(?:\n .*)*)", re.M)
-FIELD = re.compile(r"^  pub (\w+) :", re.M)
+FIELD = re.compile(r"^  pub (\w+) : (\w*)", re.M)
 
 
 @dataclass(frozen=True)
@@ -89,12 +89,16 @@ def signatures(text: str) -> Iterator[tuple[str, str]]:
 
 
 def records(specs: Path) -> dict[str, frozenset[str]]:
-    """The fields of each record that a crate's definitions have."""
+    """The fields of each record that a crate's definitions have, and of the records that are its fields."""
     found = {}
     for path in specs.glob("**/*.antt"):
         for record in RECORD.finditer(path.read_text(encoding="utf-8")):
-            found[record[1]] = frozenset(FIELD.findall(record[2]))
-    return found
+            found[record[1]] = dict(FIELD.findall(record[2]))
+
+    def fields(name: str) -> frozenset[str]:
+        return frozenset(found[name]).union(*(fields(inner) for inner in found[name].values() if inner in found and inner != name))
+
+    return {name: fields(name) for name in found}
 
 
 def calls(top: Path) -> list[Call]:

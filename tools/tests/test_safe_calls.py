@@ -55,6 +55,10 @@ pub record Made (more : ℕ)
   pub kept : new ≡ old
   -- nothing else
   pub more_left : more ≡ 0
+  pub goes : Goes old new
+
+pub record Goes (old new : Thing) : Type 0 where
+  pub on : new ≡ old
 
 pub record Other : Type 0 where
   pub lost : ⊥
@@ -92,7 +96,7 @@ class Calls(unittest.TestCase):
     def test_public_calls(self):
         found = {str(call): (call.lent and call.fails, sorted(call.clauses)) for call in safe_calls.calls(self.top)}
         self.assertEqual(found, {
-            "rv_low: here": (True, []), "rv_low: make": (True, ["kept", "more_left"]), "rv_low: Thing::add": (True, ["err", "ok"]),
+            "rv_low: here": (True, []), "rv_low: make": (True, ["goes", "kept", "more_left", "on"]), "rv_low: Thing::add": (True, ["err", "ok"]),
             "rv_low: Thing::look": (False, []), "rv_low: Watched::seen": (True, ["same"]),
         })  # fmt: skip
 
