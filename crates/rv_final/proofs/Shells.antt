@@ -1,5 +1,5 @@
 -- A step of the final stage, and what it leaves of a shell.
-use Rattle.std.proofs.Common.{◌≡◌, ◌⊎◌, ℕ, List, [], length, true, Option, None, refl, ap, sym, ◌∙◌, arith, subst, inl, inr, Ok, Err, false}
+use Rattle.std.proofs.Common.{◌≡◌, ◌⊎◌, ℕ, List, [], length, true, Option, None, refl, ap, sym, ◌∙◌, arith, subst, inl, inr, Result, Ok, Err, false}
 use Rattle.rv_value.specs.declared.duplicate.NoMemory.{NoMemory}
 use Rattle.rv_value.specs.declared.record.Record.{Record}
 use Rattle.rv_rows.specs.Rows.{Ascend}
@@ -15,10 +15,10 @@ use Rattle.rv_reader.specs.declared.step.Step.{Step}
 use Rattle.rv_reader.specs.declared.step.Step.TheVariants.{Row, Working, End}
 use Rattle.rv_final.specs.LaneWork.{effort_by}
 use Rattle.rv_final.specs.Rest.{StepMarks, Steps, rest_by}
-use Rattle.rv_final.specs.Shell.{FinalDoes, FinalReads, FinalStep, IsFinal, OnlyPasses, Shelled, ended, ended_by, final_work, keys_work, left_by, moved, rest, scanning, table_work}
+use Rattle.rv_final.specs.Shell.{Advances, FinalDoes, FinalReads, FinalStep, IsFinal, OnlyPasses, Shelled, ended, ended_by, final_work, keys_work, left_by, moved, rest, scanning, table_work}
 use Rattle.rv_final.specs.Stage.{FetchesKey, LastFits, PassesKeys, Staged, first_key, keys_left, list_left, table_left}
 use Rattle.rv_final.specs.Work.{Falls, Tries}
-use Rattle.rv_final.proofs.Endings.{ended_tries, put_then, steps_by, told_as}
+use Rattle.rv_final.proofs.Endings.{done_tries, ended_tries, put_then, steps_by, told_as}
 use Rattle.rv_final.proofs.Rests.{no_rest, same_rest}
 
 -- BY THE CONTROL
@@ -42,19 +42,21 @@ ended_last Working x = refl
 ended_last End x = refl
 
 by_end : (table snap : ℕ) (only : List (List Atom)) (list : Option (List ℕ)) (shown : Shown) (c d : Counts) (s : Step Record) (old mid : Shelled) → mid ≡ moved old mid → LastFits table snap mid.last shown → ((need : List ℕ) → Steps need [] s (rest only (shown.rows table snap) list old) (rest only (shown.rows table snap) list mid)) → FinalDoes old.control only (shown.rows table snap) (shown.pages table snap) list c d s old (ended_by s mid) → FinalReads old.control c d → Tries c d (final_work (shown.rows table snap) (shown.pages table snap) list old) (final_work (shown.rows table snap) (shown.pages table snap) list mid) → Falls s c d (final_work (shown.rows table snap) (shown.pages table snap) list old) (final_work (shown.rows table snap) (shown.pages table snap) list mid) → FinalStep table snap only list shown c d (Ok s) old (ended_by s mid)
-by_end table snap only list shown c d (Row r) old mid m l step does reads tries falls = record { does = does; moves = inl m; last = l; step = step; ends = tt; err = tt; still = tt; may_read = reads; tries = tries; falls = falls }
-by_end table snap only list shown c d Working old mid m l step does reads tries falls = record { does = does; moves = inl m; last = l; step = step; ends = tt; err = tt; still = tt; may_read = reads; tries = tries; falls = falls }
+by_end table snap only list shown c d (Row r) old mid m l step does reads tries falls = record { does = does; moves = inl m; last = l; goes = record { step = step; ends = tt; err = tt; tries = tries; falls = falls }; still = tt; may_read = reads }
+by_end table snap only list shown c d Working old mid m l step does reads tries falls = record { does = does; moves = inl m; last = l; goes = record { step = step; ends = tt; err = tt; tries = tries; falls = falls }; still = tt; may_read = reads }
 by_end table snap only list shown c d End old mid m l step does reads tries falls = record {
   does = does;
   moves = inr (ap ended m);
   last = l;
-  step = λ need. ((step need).0, no_rest only (shown.rows table snap) (λ n. false) (λ n q. refl));
-  ends = refl;
-  err = tt;
+  goes = record {
+    step = λ need. ((step need).0, no_rest only (shown.rows table snap) (λ n. false) (λ n q. refl));
+    ends = refl;
+    err = tt;
+    tries = ended_tries c d _ (final_work (shown.rows table snap) (shown.pages table snap) list mid) _ refl tries;
+    falls = falls;
+  };
   still = tt;
   may_read = reads;
-  tries = ended_tries c d _ (final_work (shown.rows table snap) (shown.pages table snap) list mid) _ refl tries;
-  falls = falls;
 }
 
 -- THE LIST
@@ -81,13 +83,15 @@ list_wanting x table snap only list shown c d old new e n l passed reads tries =
       does = tt;
       moves = inl (keys_moved old new n);
       last = subst (λ (x : Place). LastFits table snap x shown) (sym (ap (λ (x : Shelled). x.last) n)) l;
-      step = tt;
-      ends = tt;
-      err = rest_at only rows list new FinalList there ∙ same_rest only rows (list_left list None old.at) (list_left list None new.at) (λ k q. passed.same k) ∙ sym (rest_at only rows list old FinalList e);
+      goes = record {
+        step = tt;
+        ends = tt;
+        err = rest_at only rows list new FinalList there ∙ same_rest only rows (list_left list None old.at) (list_left list None new.at) (λ k q. passed.same k) ∙ sym (rest_at only rows list old FinalList e);
+        tries = list_tries rows (shown.pages table snap) list (Tries c d) old new e n tries;
+        falls = tt;
+      };
       still = record { same = n; fewer = tries.less };
       may_read = subst (λ (x : Control). FinalReads x c d) (sym e) reads;
-      tries = list_tries rows (shown.pages table snap) list (Tries c d) old new e n tries;
-      falls = tt;
     }
 
 -- THE TABLE
@@ -111,13 +115,15 @@ table_wanting x table snap only list shown c d old new e n l may tries = record 
   does = tt;
   moves = inl (subst (λ (x : Shelled). x ≡ moved old x) (sym n) refl);
   last = subst (λ (x : Shelled). LastFits table snap x.last shown) (sym n) l;
-  step = tt;
-  ends = tt;
-  err = ap (rest only (shown.rows table snap) list) n;
+  goes = record {
+    step = tt;
+    ends = tt;
+    err = ap (rest only (shown.rows table snap) list) n;
+    tries = table_tries (shown.rows table snap) (shown.pages table snap) list (Tries c d) old new e (n ∙ ap (λ (x : Shelled). record old { last = x.last }) (sym n)) tries;
+    falls = tt;
+  };
   still = subst (OnlyPasses list old) (sym n) (record { same = refl; fewer = omega arith });
   may_read = subst (λ (x : Control). FinalReads x c d) (sym e) may;
-  tries = table_tries (shown.rows table snap) (shown.pages table snap) list (Tries c d) old new e (n ∙ ap (λ (x : Shelled). record old { last = x.last }) (sym n)) tries;
-  falls = tt;
 }
 
 -- What the final stage's calls leave of a shell.
@@ -147,6 +153,15 @@ no_scans BackgroundAlone scans keys table off = absurd (cc)
 no_scans FinalList scans keys table off = refl
 no_scans FinalTable scans keys table off = refl
 no_scans Done scans keys table off = refl
+
+-- WHAT A STEP COMES TO, told of the same rest and effort in other words
+
+pub advances_as : (control : Control) (c d : Counts) (r : Result (Step Record) NoMemory) (was left told : List Record) (before first after last : ℕ) → told ≡ left → first ≡ before → last ≡ after → Advances control c d r was left before after → Advances control c d r was told first last
+advances_as control c d r was left told before first after last t f l h = subst (λ (x : List Record). Advances control c d r was x first last) (sym t) (told_as (Advances control c d r was left) before after first last f l h)
+
+-- nothing is left
+pub done_advances : (control : Control) (c : Counts) (left : List Record) (n : ℕ) → control ≡ Done → left ≡ [] → Advances control c c (Ok End) left left n n
+done_advances control c left n e none = record { step = λ need. (none, none); ends = e; err = tt; tries = done_tries c n; falls = refl }
 
 -- nothing was done for want of memory
 pub itself_wanting : (x : NoMemory) (table snap : ℕ) (only : List (List Atom)) (list : Option (List ℕ)) (shown : Shown) (c : Counts) (s : Shelled) → IsFinal s.control → LastFits table snap s.last shown → FinalStep table snap only list shown c c (Err x) s s

@@ -125,6 +125,16 @@ EndsAt c (Row r) = Unit {0}
 EndsAt c Working = Unit {0}
 EndsAt c End = c ≡ Done
 
+-- WHAT A STEP COMES TO, over what is still to be given and the effort, before and after: it takes one record out of the
+-- rest, or leaves it, or the rest is empty and the last control comes; where no memory is found the rest stays
+pub record Advances (control : Control) (c d : Counts) (r : Result (Step Record) NoMemory) (was left : List Record)
+    (before after : ℕ) : Type 0 where
+  pub step : IfOk r (λ s. (need : List ℕ) → Steps need [] s was left)
+  pub ends : IfOk r (EndsAt control)
+  pub err : OnErr r (left ≡ was)
+  pub tries : Tries c d before after
+  pub falls : IfOk r (λ s. Falls s c d before after)
+
 -- WHAT A STEP DOES AND READS, by the control: the fetch of the next key of the complete list, which is then behind it,
 -- or a step through the table, where a page that is read was there and is then behind it
 abbrev pub FinalDoes : Control → List (List Atom) → List Record → ℕ → Option (List ℕ) → Counts → Counts → Step Record → Shelled
@@ -153,20 +163,15 @@ pub record OnlyPasses (list : Option (List ℕ)) (old new : Shelled) : Type 0 wh
   pub same : new ≡ record old { at = new.at }
   pub fewer : keys_work list new ≤ keys_work list old
 
--- WHAT HOLDS OF A STEP OF THE FINAL STAGE, over the rows and pages of its table: it takes one record out of the rest, or
--- leaves it, or the rest is empty and the last control comes
+-- WHAT HOLDS OF A STEP OF THE FINAL STAGE, over the rows and pages of its table
 pub record FinalStep (table snap : ℕ) (only : List (List Atom)) (list : Option (List ℕ)) (shown : Shown)
     (c d : Counts) (r : Result (Step Record) NoMemory) (old new : Shelled) : Type 0 where
   pub does : IfOk r (λ s. FinalDoes old.control only (shown.rows table snap) (shown.pages table snap) list c d s old new)
   pub moves : (new ≡ moved old new) ⊎ (new ≡ ended (moved old new))
   pub last : LastFits table snap new.last shown
-  pub step : IfOk r (λ s. (need : List ℕ) → Steps need [] s (rest only (shown.rows table snap) list old)
-      (rest only (shown.rows table snap) list new))
-  pub ends : IfOk r (EndsAt new.control)
-  pub err : OnErr r (rest only (shown.rows table snap) list new ≡ rest only (shown.rows table snap) list old)
+  pub goes : Advances new.control c d r (rest only (shown.rows table snap) list old)
+      (rest only (shown.rows table snap) list new)
+      (final_work (shown.rows table snap) (shown.pages table snap) list old)
+      (final_work (shown.rows table snap) (shown.pages table snap) list new)
   pub still : OnErr r (OnlyPasses list old new)
   pub may_read : FinalReads old.control c d
-  pub tries : Tries c d (final_work (shown.rows table snap) (shown.pages table snap) list old)
-      (final_work (shown.rows table snap) (shown.pages table snap) list new)
-  pub falls : IfOk r (λ s. Falls s c d (final_work (shown.rows table snap) (shown.pages table snap) list old)
-      (final_work (shown.rows table snap) (shown.pages table snap) list new))

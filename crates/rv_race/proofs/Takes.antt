@@ -11,12 +11,12 @@ use Rattle.rv_jscan.specs.declared.jscan.ScanCounts.{ScanCounts}
 use Rattle.rv_jscan.specs.Joint.{CanMake}
 use Rattle.rv_jscan.specs.Lanes.{IsOwn, LaneFits, Laned, leaf_once}
 use Rattle.rv_jscan.specs.Pieces.{Pieced}
-use Rattle.rv_race.specs.Given.{Awaits, TakesLeaf, awaited, counts_read, holding, next_id, one_leaf, piece_read, turn_lane, turn_plan, turn_scan, with_lane}
+use Rattle.rv_race.specs.Given.{Awaits, TakesLeaf, Took, awaited, counts_read, holding, next_id, one_leaf, piece_read, turn_lane, turn_plan, turn_scan, with_lane}
 use Rattle.rv_race.specs.Opened.{Steady}
 use Rattle.rv_race.specs.Raced.{RaceFits, Raced, SameRace, rest}
 use Rattle.rv_final.specs.Shell.{scanning}
 use Rattle.rv_race.specs.Runs.{Tells}
-use Rattle.rv_final.proofs.Takings.{held_if, none_unread, once_read}
+use Rattle.rv_final.proofs.Takings.{held_if, none_read, none_unread, once_read}
 use Rattle.rv_race.proofs.Switches.{aside_fits, moved_fits}
 use Rattle.rv_race.proofs.Tellings.{aside_tells}
 
@@ -80,13 +80,16 @@ took_reads old mid c d back m r = r ∙ ap (λ (x : Raced). leaf_once (turn_lane
 pub none_counted : (r : Raced) → scanning r.control ≡ false → counts_read r ≡ r.counts
 none_counted r off = ap (λ (b : Bool). if b then one_leaf r else r.counts) (none_unread (scanning r.control) (turn_lane r).held off)
 
-pub none_leaves : (r : Raced) → scanning r.control ≡ false → TakesLeaf r r
+none_leaves : (r : Raced) → scanning r.control ≡ false → TakesLeaf r r
 none_leaves r off = record {
   same = ap (λ (cs : List ScanCounts). record r { counts = cs }) (sym (none_counted r off));
   none = λ h. refl;
   named = refl;
   events = refl;
 }
+
+pub none_took : (r : Raced) (shown : Shown) (c : Counts) → scanning r.control ≡ false → RaceFits r shown → Took shown c c r r
+none_took r shown c off fits = record { leaves = none_leaves r off; told = refl; fits = fits; reads = none_read (scanning r.control) (turn_lane r).held c off }
 
 -- What a take keeps.
 
@@ -107,12 +110,12 @@ took_tells old new t tells =
     let parts = took_parts old new t in
     aside_tells old new (ap (λ (x : Raced). x.plans) parts) (ap (λ (es : _). es.items) t.events) t.named (ap (λ (x : Raced). x.list) parts) (ap (λ (x : Raced). x.running.other) t.same) (ap (λ (x : Raced). x.running.next) t.same) (ap turn_scan t.same) (ap (λ (x : Raced). x.control) parts) tells
 
-pub took_steady : (old new : Raced) (shown : Shown) → TakesLeaf old new → new.trace ≡ old.trace → RaceFits new shown → Steady old new shown
-took_steady old new shown t e f = record {
-  same = took_race old new t;
-  counts = record { pages = ap (λ (x : Trace). x.pages) e; leaves = ap (λ (x : Trace). x.leaves) e; fetches = ap (λ (x : Trace). x.fetches) e };
-  fits = f;
-  tells = took_tells old new t;
+pub took_steady : (old new : Raced) (shown : Shown) (c d : Counts) → Took shown c d old new → Steady old new shown
+took_steady old new shown c d t = record {
+  same = took_race old new t.leaves;
+  counts = record { pages = ap (λ (x : Trace). x.pages) t.told; leaves = ap (λ (x : Trace). x.leaves) t.told; fetches = ap (λ (x : Trace). x.fetches) t.told };
+  fits = t.fits;
+  tells = took_tells old new t.leaves;
 }
 
 -- What was read is counted.

@@ -3,6 +3,7 @@ use Rattle.std.specs.Prelude.{◌≡◌, ℕ, Bool, true, false, not, ◌&&◌, 
 use Rattle.rv_judge.specs.declared.counting.Counts.{Counts}
 use Rattle.rv_judge.specs.Counting.{leaf_read}
 use Rattle.rv_reader.specs.declared.reader.Chunk.{Chunk}
+use Rattle.rv_reader.specs.Shown.{Shown}
 use Rattle.rv_jscan.specs.declared.piece.PieceId.{PieceId}
 use Rattle.rv_jscan.specs.declared.jscan.ScanPlan.{ScanPlan}
 use Rattle.rv_jscan.specs.declared.jscan.ScanCounts.{ScanCounts}
@@ -14,7 +15,7 @@ use Rattle.rv_jscan.specs.Joint.{counts_at, plan_at}
 use Rattle.rv_jscan.specs.Lanes.{IsOwn, Laned}
 use Rattle.rv_jscan.specs.Pieces.{Pieced}
 use Rattle.rv_jscan.specs.Steps.{leaf_counted}
-use Rattle.rv_race.specs.Raced.{Raced}
+use Rattle.rv_race.specs.Raced.{RaceFits, Raced}
 use Rattle.rv_final.specs.Shell.{scanning}
 
 -- the scan whose turn it is
@@ -79,3 +80,10 @@ pub record TakesLeaf (old new : Raced) : Type 0 where
   pub none : reads_leaf old ≡ false → new.running ≡ old.running
   pub named : new.trace.strategy ≡ old.trace.strategy
   pub events : new.trace.events ≡ old.trace.events
+
+-- WHAT HOLDS OF A TAKE, before what it read is counted
+pub record Took (shown : Shown) (c d : Counts) (old new : Raced) : Type 0 where
+  pub leaves : TakesLeaf old new
+  pub told : new.trace ≡ old.trace
+  pub fits : RaceFits new shown
+  pub reads : d ≡ piece_read old c

@@ -1,6 +1,7 @@
 -- What a race is opened over, what it then is, and what its steps do.
-use Rattle.std.specs.Prelude.{◌≡◌, ℕ, ◌+◌, ◌≤◌, List, [], length, None}
+use Rattle.std.specs.Prelude.{◌≡◌, ℕ, ◌+◌, ◌≤◌, List, [], length, None, Result, IfOk, OnErr}
 use Rattle.rv_rows.specs.Rows.{Ascend}
+use Rattle.rv_value.specs.declared.duplicate.NoMemory.{NoMemory}
 use Rattle.rv_value.specs.declared.record.Record.{Record}
 use Rattle.rv_judge.specs.declared.counting.Counts.{Counts}
 use Rattle.rv_judge.specs.declared.events.Control.{Control}
@@ -25,10 +26,10 @@ use Rattle.rv_jscan.specs.Joint.{no_counts, plan_at}
 use Rattle.rv_jscan.specs.Pieces.{Pieced}
 use Rattle.rv_jscan.specs.Steps.{eight}
 use Rattle.rv_final.specs.Rest.{Steps, qualifies_at}
-use Rattle.rv_final.specs.Shell.{EndsAt, first_trace}
+use Rattle.rv_final.specs.Shell.{Advances, EndsAt, first_trace}
 use Rattle.rv_final.specs.Stage.{FetchesKey, Unbegun, first_key}
 use Rattle.rv_final.specs.Work.{Falls}
-use Rattle.rv_race.specs.Effort.{keys_work}
+use Rattle.rv_race.specs.Effort.{effort, keys_work}
 use Rattle.rv_race.specs.Given.{Awaits, TakesLeaf, counts_read, holding, piece_read, turn_lane}
 use Rattle.rv_race.specs.Raced.{PlansFit, RaceFits, Raced, SameRace, rest, rows_of}
 use Rattle.rv_race.specs.Rulings.{GivesOn, gone}
@@ -139,6 +140,16 @@ pub record OnlyTakes (old new : Raced) : Type 0 where
   pub named : new.trace.strategy ≡ old.trace.strategy
   pub events : new.trace.events ≡ old.trace.events
   pub fewer : keys_work new ≤ keys_work old
+
+-- WHAT HOLDS OF A STEP, before what it read is counted
+pub record StageStep (would : ℕ → Facts → Ruling) (state after : ℕ) (shown : Shown) (c d : Counts)
+    (r : Result (Step Record) NoMemory) (old new : Raced) : Type 0 where
+  pub does : IfOk r (λ s. Does would state after shown c d s old new)
+  pub steady : Steady old new shown
+  pub goes : Advances new.control c d r (rest old shown) (rest new shown) (effort old shown) (effort new shown)
+  pub still : OnErr r (OnlyTakes old new)
+  pub quiet : OnErr r (after ≡ state)
+  pub may_read : MayRead old.control old c d
 
 -- what it does, and then what it read is counted
 pub record StepsAs (would : ℕ → Facts → Ruling) (state after : ℕ) (shown : Shown) (c d : Counts) (s : Step Record)

@@ -1,9 +1,9 @@
 ghost use Rattle.std.specs.Prelude.{◌≡◌, IfOk, OnErr, Ok};
 ghost use Rattle.rv_judge.specs.Tracing.{CountsRise};
-ghost use Rattle.rv_final.specs.Work.{Falls, Tries};
+ghost use Rattle.rv_final.specs.Work.{Tries};
 ghost use Rattle.rv_final.specs.LaneWork.{Spends};
 ghost use Rattle.rv_race.specs.Effort.{effort};
-ghost use Rattle.rv_race.specs.Opened.{Does, DoesStep, EndsIn, MayRead, OnlyTakes, Steady, StepsAs};
+ghost use Rattle.rv_race.specs.Opened.{DoesStep, EndsIn, MayRead, OnlyTakes, StageStep, StepsAs};
 ghost use Rattle.rv_race.specs.Raced.{RaceFits, SameRace, rest};
 ghost use Rattle.rv_race.specs.Runs.{Tells};
 
@@ -24,17 +24,8 @@ impl Race {
     ) -> Result<Step<Record>, NoMemory>
         requires control { self.old.control ≡ Control.BackgroundAlone }
         requires fits { RaceFits self.old (R.shown reader.now) }
-        ensures does { IfOk result (λ s. Does (would judge.old) (state judge.old) (state judge.new) (R.shown reader.now) steps.old steps.new s self.old self.new) }
-        ensures steady { Steady self.old self.new (R.shown reader.now) }
-        ensures step { IfOk result (DoesStep self.old self.new (R.shown reader.now)) }
-        ensures ends { IfOk result (EndsIn self.new) }
-        ensures err { OnErr result (rest self.new (R.shown reader.now) ≡ rest self.old (R.shown reader.now)) }
-        ensures still { OnErr result (OnlyTakes self.old self.new) }
-        ensures quiet { OnErr result (state judge.new ≡ state judge.old) }
+        ensures stepped { StageStep (would judge.old) (state judge.old) (state judge.new) (R.shown reader.now) steps.old steps.new result self.old self.new }
         ensures stays { would judge.new ≡ would judge.old }
-        ensures may_read { MayRead self.old.control self.old steps.old steps.new }
-        ensures tries { Tries steps.old steps.new (effort self.old (R.shown reader.now)) (effort self.new (R.shown reader.now)) }
-        ensures falls { IfOk result (λ s. Falls s steps.old steps.new (effort self.old (R.shown reader.now)) (effort self.new (R.shown reader.now))) }
     {
         match self.take_piece(reader, steps)? {
             Taken::Piece(piece) => {
@@ -53,18 +44,9 @@ impl Race {
         steps: &mut Steps<R::Ledger>,
     ) -> Result<Step<Record>, NoMemory>
         requires fits { RaceFits self.old (R.shown reader.now) }
-        ensures does { IfOk result (λ s. Does (would judge.old) (state judge.old) (state judge.new) (R.shown reader.now) steps.old steps.new s self.old self.new) }
-        ensures steady { Steady self.old self.new (R.shown reader.now) }
-        ensures step { IfOk result (DoesStep self.old self.new (R.shown reader.now)) }
-        ensures ends { IfOk result (EndsIn self.new) }
+        ensures stepped { StageStep (would judge.old) (state judge.old) (state judge.new) (R.shown reader.now) steps.old steps.new result self.old self.new }
         ensures again { self.old.control ≡ Control.Done → result ≡ Ok Step.End }
-        ensures err { OnErr result (rest self.new (R.shown reader.now) ≡ rest self.old (R.shown reader.now)) }
-        ensures still { OnErr result (OnlyTakes self.old self.new) }
-        ensures quiet { OnErr result (state judge.new ≡ state judge.old) }
         ensures stays { would judge.new ≡ would judge.old }
-        ensures may_read { MayRead self.old.control self.old steps.old steps.new }
-        ensures tries { Tries steps.old steps.new (effort self.old (R.shown reader.now)) (effort self.new (R.shown reader.now)) }
-        ensures falls { IfOk result (λ s. Falls s steps.old steps.new (effort self.old (R.shown reader.now)) (effort self.new (R.shown reader.now))) }
     {
         match self.control() {
             Control::BackgroundAlone => self.background_step(reader, judge, steps),

@@ -3,7 +3,7 @@ ghost use Rattle.rv_judge.specs.Counting.{reads};
 ghost use Rattle.rv_judge.specs.Tracing.{CountsRise};
 ghost use Rattle.rv_final.specs.Work.{Tries};
 ghost use Rattle.rv_race.specs.Effort.{effort};
-ghost use Rattle.rv_race.specs.Given.{Awaits, TakesLeaf, TakesPiece, awaited, counts_read, piece_read, turn_lane};
+ghost use Rattle.rv_race.specs.Given.{Awaits, TakesLeaf, TakesPiece, Took, awaited, counts_read, piece_read, turn_lane};
 ghost use Rattle.rv_race.specs.Raced.{RaceFits, SameRace, rest};
 ghost use Rattle.rv_final.specs.Shell.{scanning};
 ghost use Rattle.rv_race.specs.Runs.{IsOfUndropped, Tells};
@@ -23,12 +23,9 @@ impl Race {
     ) -> Result<Piece, NoMemory>
         requires under_way { scanning self.old.control ≡ true }
         requires fits { RaceFits self.old (R.shown reader.now) }
-        ensures leaves { TakesLeaf self.old self.new }
-        ensures told { self.new.trace ≡ self.old.trace }
+        ensures took { Took (R.shown reader.now) steps.old steps.new self.old self.new }
         ensures taken { IfOk result (Awaits self.new) }
         ensures err { OnErr result (self.new ≡ record self.old { counts = counts_read self.old }) }
-        ensures fits { RaceFits self.new (R.shown reader.now) }
-        ensures reads { steps.new ≡ piece_read self.old steps.old }
     {
         self.count_read();
         let id = self.next_id();
@@ -43,12 +40,9 @@ impl Race {
         steps: &mut Steps<R::Ledger>,
     ) -> Result<Taken, NoMemory>
         requires fits { RaceFits self.old (R.shown reader.now) }
-        ensures leaves { TakesLeaf self.old self.new }
-        ensures told { self.new.trace ≡ self.old.trace }
+        ensures took { Took (R.shown reader.now) steps.old steps.new self.old self.new }
         ensures taken { IfOk result (TakesPiece self.new) }
         ensures untaken { OnErr result ((turn_lane self.new).held ≡ (turn_lane self.old).held) }
-        ensures fits { RaceFits self.new (R.shown reader.now) }
-        ensures reads { steps.new ≡ piece_read self.old steps.old }
     {
         if !self.is_racing() {
             return Ok(Taken::Nothing);

@@ -1,5 +1,5 @@
 -- The final stage of a union.
-use Rattle.std.proofs.Common.{◌≡◌, ◌⊎◌, ℕ, ◌≤◌, List, [], length, false, refl, ap, sym, ◌∙◌, subst, inl, inr, Option, Some, None, IfSome, Result, Ok, Err, IfOk, OnErr}
+use Rattle.std.proofs.Common.{◌≡◌, ◌⊎◌, ℕ, ◌≤◌, List, [], length, false, refl, ap, sym, ◌∙◌, subst, inl, inr, Option, Some, None, IfSome, Result, Ok, Err, IfOk}
 use Rattle.rv_value.specs.declared.duplicate.NoMemory.{NoMemory}
 use Rattle.rv_value.proofs.Tests.{no_way}
 use Rattle.rv_value.specs.declared.record.IndexEntry.{IndexEntry}
@@ -23,17 +23,17 @@ use Rattle.rv_jscan.specs.declared.jscan.ScanPlan.{ScanPlan}
 use Rattle.rv_jscan.specs.Lanes.{IsLeafAt}
 use Rattle.rv_jscan.specs.Pieces.{Pieced}
 use Rattle.rv_jscan.specs.Steps.{HasEntries}
-use Rattle.rv_final.specs.Rest.{Steps, rest_by}
-use Rattle.rv_final.specs.Shell.{FinalDoes, FinalReads, FinalStep, IsFinal, Shelled, ended, ended_by as shell_ended, final_work, left_by, moved, rest as rest_left, scanning}
+use Rattle.rv_final.specs.Rest.{rest_by}
+use Rattle.rv_final.specs.Shell.{Advances, FinalDoes, FinalReads, FinalStep, IsFinal, Shelled, ended, ended_by as shell_ended, final_work, left_by, moved, rest as rest_left, scanning}
 use Rattle.rv_final.specs.Stage.{LastFits, Staged, keys_left}
-use Rattle.rv_final.specs.Work.{Falls, Tries}
-use Rattle.rv_final.proofs.Endings.{final_done, told_as}
+use Rattle.rv_final.specs.Work.{Falls}
+use Rattle.rv_final.proofs.Endings.{final_done}
 use Rattle.rv_final.proofs.Givings.{was_accepted}
 use Rattle.rv_final.proofs.Rests.{no_rest}
-use Rattle.rv_final.proofs.Shells.{final_over, no_scans, stays_over}
+use Rattle.rv_final.proofs.Shells.{advances_as, final_over, no_scans, stays_over}
 use Rattle.rv_union.specs.Effort.{effort, keys_work, scanning_work, table_work}
 use Rattle.rv_union.specs.Given.{Answers, Awaits, TakesLeaf, piece_read}
-use Rattle.rv_union.specs.Opened.{Does, DoesAs, DoesStep, MayRead, Steady, ended_by}
+use Rattle.rv_union.specs.Opened.{Does, DoesAs, MayRead, Steady, ended_by}
 use Rattle.rv_union.specs.Unioned.{UnionFits, Unioned, present, rest, rows_of, shell_of, with_shell}
 use Rattle.rv_union.specs.Rulings.{GivesOn, gone}
 use Rattle.rv_union.proofs.Switches.{aside_fits}
@@ -133,29 +133,14 @@ final_does (Ok s) rules stands shown c d old new at same f = by at
 final_rest : (old new : Unioned) (shown : Shown) → new ≡ with_shell (shell_of new) old → rest new shown ≡ rest_left old.only (rows_of old shown) (Some old.keys) (shell_of new)
 final_rest old new shown same = ap (λ (x : Unioned). rest x shown) same
 
-pub final_scanned : (r : Result (Step Record) NoMemory) (shown : Shown) (c d : Counts) (old new : Unioned) → new ≡ with_shell (shell_of new) old → Finishes shown c d r old new → IfOk r (DoesStep old new shown)
-final_scanned (Err x) shown c d old new same f = tt
-final_scanned (Ok s) shown c d old new same f = λ need. subst (λ (left : List Record). Steps need [] s (rest old shown) left) (sym (final_rest old new shown same)) (f.step need)
-
-pub final_wanting : (r : Result (Step Record) NoMemory) (shown : Shown) (c d : Counts) (old new : Unioned) → new ≡ with_shell (shell_of new) old → Finishes shown c d r old new → OnErr r (rest new shown ≡ rest old shown)
-final_wanting (Err x) shown c d old new same f = final_rest old new shown same ∙ f.err
-final_wanting (Ok s) shown c d old new same f = tt
-
 effort_over : (r : Unioned) (shown : Shown) → scanning r.control ≡ false → effort r shown ≡ final_work (rows_of r shown) (shown.pages r.table r.snap) (Some r.keys) (shell_of r)
 effort_over r shown off = no_scans r.control (scanning_work r shown) (keys_work r) (table_work r shown) off
 
-pub final_effort : (r : Result (Step Record) NoMemory) (P : ℕ → ℕ → Type 0) (shown : Shown) (c d : Counts) (old new : Unioned) → IsFinal old.control → new ≡ with_shell (shell_of new) old → Finishes shown c d r old new → P (final_work (rows_of old shown) (shown.pages old.table old.snap) (Some old.keys) (shell_of old)) (final_work (rows_of old shown) (shown.pages old.table old.snap) (Some old.keys) (shell_of new)) → P (effort old shown) (effort new shown)
-final_effort r P shown c d old new at same f h =
+pub final_goes : (r : Result (Step Record) NoMemory) (shown : Shown) (c d : Counts) (old new : Unioned) → IsFinal old.control → new ≡ with_shell (shell_of new) old → Finishes shown c d r old new → Advances new.control c d r (rest old shown) (rest new shown) (effort old shown) (effort new shown)
+final_goes r shown c d old new at same f =
     let off : scanning new.control ≡ false = stays_over (shell_of old) (shell_of new) at f.moves in
     let left = effort_over new shown off ∙ ap (λ (x : Unioned). final_work (rows_of x shown) (shown.pages x.table x.snap) (Some x.keys) (shell_of x)) same in
-    told_as P _ _ (effort old shown) (effort new shown) (effort_over old shown (final_over old.control at)) left h
-
-pub final_tries : (r : Result (Step Record) NoMemory) (shown : Shown) (c d : Counts) (old new : Unioned) → IsFinal old.control → new ≡ with_shell (shell_of new) old → Finishes shown c d r old new → Tries c d (effort old shown) (effort new shown)
-final_tries r shown c d old new at same f = final_effort r (Tries c d) shown c d old new at same f f.tries
-
-pub final_falls : (r : Result (Step Record) NoMemory) (shown : Shown) (c d : Counts) (old new : Unioned) → IsFinal old.control → new ≡ with_shell (shell_of new) old → Finishes shown c d r old new → IfOk r (λ s. Falls s c d (effort old shown) (effort new shown))
-final_falls (Err x) shown c d old new at same f = tt
-final_falls (Ok s) shown c d old new at same f = final_effort (Ok s) (Falls s c d) shown c d old new at same f f.falls
+    advances_as new.control c d r _ _ _ _ _ _ _ (final_rest old new shown same) (effort_over old shown (final_over old.control at)) left f.goes
 
 pub final_reads : (r : Unioned) (c d : Counts) → IsFinal r.control → FinalReads r.control c d → MayRead r.control r c d
 final_reads r c d (inl e) reads = subst (λ (x : Control). MayRead x r c d) (sym e) (subst (λ (x : Control). FinalReads x c d) e reads)

@@ -12,12 +12,12 @@ use Rattle.rv_jscan.specs.Joint.{CanMake}
 use Rattle.rv_jscan.specs.Lanes.{IsOwn, LaneFits, Laned, leaf_once}
 use Rattle.rv_jscan.specs.Pieces.{Pieced}
 use Rattle.rv_jscan.specs.Steps.{leaf_counted}
-use Rattle.rv_union.specs.Given.{Awaits, TakesLeaf, awaited, count_read, holding, next_id, piece_read, with_lane}
+use Rattle.rv_union.specs.Given.{Awaits, TakesLeaf, Took, awaited, count_read, holding, next_id, piece_read, with_lane}
 use Rattle.rv_union.specs.Opened.{Steady}
 use Rattle.rv_union.specs.Unioned.{UnionFits, Unioned, SameUnion, present, rest}
 use Rattle.rv_final.specs.Shell.{scanning}
 use Rattle.rv_union.specs.Runs.{Tells}
-use Rattle.rv_final.proofs.Takings.{held_if, none_unread, once_read}
+use Rattle.rv_final.proofs.Takings.{held_if, none_read, none_unread, once_read}
 use Rattle.rv_union.proofs.Switches.{aside_fits, moved_fits}
 use Rattle.rv_union.proofs.Tellings.{aside_tells}
 
@@ -83,13 +83,16 @@ took_reads old mid c d back m r = r ∙ ap (λ (x : Unioned). leaf_once x.lane c
 pub none_counted : (r : Unioned) → scanning r.control ≡ false → count_read r ≡ r.count
 none_counted r off = ap (λ (b : Bool). if b then leaf_counted r.count else r.count) (none_unread (scanning r.control) r.lane.held off)
 
-pub none_leaves : (r : Unioned) → scanning r.control ≡ false → TakesLeaf r r
+none_leaves : (r : Unioned) → scanning r.control ≡ false → TakesLeaf r r
 none_leaves r off = record {
   same = ap (λ (c : ScanCounts). record r { count = c }) (sym (none_counted r off));
   none = λ h. refl;
   named = refl;
   events = refl;
 }
+
+pub none_took : (r : Unioned) (shown : Shown) (c : Counts) → scanning r.control ≡ false → UnionFits r shown → Took shown c c r r
+none_took r shown c off fits = record { leaves = none_leaves r off; told = refl; fits = fits; reads = none_read (scanning r.control) r.lane.held c off }
 
 -- What a take keeps.
 
@@ -110,12 +113,12 @@ took_tells old new t tells =
     let parts = took_parts old new t in
     aside_tells old new (ap (λ (x : Unioned). x.plans) parts) (ap (λ (x : Unioned). x.member) parts) (ap (λ (es : _). es.items) t.events) t.named (ap (λ (x : Unioned). x.control) parts) tells
 
-pub took_steady : (old new : Unioned) (shown : Shown) → TakesLeaf old new → new.trace ≡ old.trace → UnionFits new shown → Steady old new shown
-took_steady old new shown t e f = record {
-  same = took_union old new t;
-  counts = record { pages = ap (λ (x : Trace). x.pages) e; leaves = ap (λ (x : Trace). x.leaves) e; fetches = ap (λ (x : Trace). x.fetches) e };
-  fits = f;
-  tells = took_tells old new t;
+pub took_steady : (old new : Unioned) (shown : Shown) (c d : Counts) → Took shown c d old new → Steady old new shown
+took_steady old new shown c d t = record {
+  same = took_union old new t.leaves;
+  counts = record { pages = ap (λ (x : Trace). x.pages) t.told; leaves = ap (λ (x : Trace). x.leaves) t.told; fetches = ap (λ (x : Trace). x.fetches) t.told };
+  fits = t.fits;
+  tells = took_tells old new t.leaves;
 }
 
 -- What was read is counted.

@@ -3,6 +3,7 @@ use Rattle.std.specs.Prelude.{◌≡◌, Bool, true, false, not, ◌&&◌, Optio
 use Rattle.rv_judge.specs.declared.counting.Counts.{Counts}
 use Rattle.rv_judge.specs.Counting.{leaf_read}
 use Rattle.rv_reader.specs.declared.reader.Chunk.{Chunk}
+use Rattle.rv_reader.specs.Shown.{Shown}
 use Rattle.rv_jscan.specs.declared.piece.PieceId.{PieceId}
 use Rattle.rv_jscan.specs.declared.jscan.ScanCounts.{ScanCounts}
 use Rattle.rv_jscan.specs.declared.jscan.Given.{Given}
@@ -12,7 +13,7 @@ use Rattle.rv_jscan.specs.declared.jscan.Taken.TheVariants.{Piece, Nothing}
 use Rattle.rv_jscan.specs.Lanes.{IsOwn, Laned}
 use Rattle.rv_jscan.specs.Pieces.{Pieced}
 use Rattle.rv_jscan.specs.Steps.{leaf_counted}
-use Rattle.rv_union.specs.Unioned.{Unioned, present}
+use Rattle.rv_union.specs.Unioned.{UnionFits, Unioned, present}
 use Rattle.rv_final.specs.Shell.{scanning}
 
 -- the id of the next piece
@@ -64,3 +65,10 @@ pub record TakesLeaf (old new : Unioned) : Type 0 where
   pub none : reads_leaf old ≡ false → new.lane ≡ old.lane
   pub named : new.trace.strategy ≡ old.trace.strategy
   pub events : new.trace.events ≡ old.trace.events
+
+-- WHAT HOLDS OF A TAKE, before what it read is counted
+pub record Took (shown : Shown) (c d : Counts) (old new : Unioned) : Type 0 where
+  pub leaves : TakesLeaf old new
+  pub told : new.trace ≡ old.trace
+  pub fits : UnionFits new shown
+  pub reads : d ≡ piece_read old c

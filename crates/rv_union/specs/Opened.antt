@@ -1,6 +1,7 @@
 -- What a union is opened over, what it then is, and what its steps do.
-use Rattle.std.specs.Prelude.{◌≡◌, ℕ, ◌+◌, ◌≤◌, List, [], length, Some, None}
+use Rattle.std.specs.Prelude.{◌≡◌, ℕ, ◌+◌, ◌≤◌, List, [], length, Some, None, Result, IfOk, OnErr}
 use Rattle.rv_rows.specs.Rows.{Ascend}
+use Rattle.rv_value.specs.declared.duplicate.NoMemory.{NoMemory}
 use Rattle.rv_value.specs.declared.record.Record.{Record}
 use Rattle.rv_judge.specs.declared.counting.Counts.{Counts}
 use Rattle.rv_judge.specs.declared.events.Control.{Control}
@@ -24,10 +25,11 @@ use Rattle.rv_jscan.specs.Joint.{no_counts, plan_at}
 use Rattle.rv_jscan.specs.Lanes.{no_lane}
 use Rattle.rv_jscan.specs.Pieces.{Pieced}
 use Rattle.rv_final.specs.Rest.{Steps, qualifies_at}
-use Rattle.rv_final.specs.Shell.{EndsAt, first_trace}
+use Rattle.rv_final.specs.Shell.{Advances, EndsAt, first_trace}
 use Rattle.rv_final.specs.Stage.{FetchesKey, Unbegun, first_key}
 use Rattle.rv_final.specs.Work.{Falls}
-use Rattle.rv_union.specs.Effort.{keys_work}
+use Rattle.rv_union.specs.Effort.{effort, keys_work}
+use Rattle.rv_union.specs.Leaves.{LeavesFall, leaves_left}
 use Rattle.rv_union.specs.Given.{Awaits, TakesLeaf, count_read, holding, piece_read}
 use Rattle.rv_union.specs.Rulings.{GivesOn, gone}
 use Rattle.rv_union.specs.Runs.{OfFewIndexes, Tells}
@@ -138,6 +140,17 @@ pub record OnlyTakes (old new : Unioned) : Type 0 where
   pub named : new.trace.strategy ≡ old.trace.strategy
   pub events : new.trace.events ≡ old.trace.events
   pub fewer : keys_work new ≤ keys_work old
+
+-- WHAT HOLDS OF A STEP, before what it read is counted
+pub record StageStep (would : ℕ → Facts → Ruling) (state after : ℕ) (shown : Shown) (c d : Counts)
+    (r : Result (Step Record) NoMemory) (old new : Unioned) : Type 0 where
+  pub does : IfOk r (λ s. Does would state after shown c d s old new)
+  pub steady : Steady old new shown
+  pub goes : Advances new.control c d r (rest old shown) (rest new shown) (effort old shown) (effort new shown)
+  pub still : OnErr r (OnlyTakes old new)
+  pub quiet : OnErr r (after ≡ state)
+  pub may_read : MayRead old.control old c d
+  pub nearer : IfOk r (λ s. LeavesFall c d (leaves_left old shown) (leaves_left new shown))
 
 -- what it does, and then what it read is counted
 pub record StepsAs (would : ℕ → Facts → Ruling) (state after : ℕ) (shown : Shown) (c d : Counts) (s : Step Record)

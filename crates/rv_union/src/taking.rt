@@ -4,7 +4,7 @@ ghost use Rattle.rv_judge.specs.Tracing.{CountsRise};
 ghost use Rattle.rv_final.specs.Work.{Tries};
 ghost use Rattle.rv_union.specs.Effort.{effort};
 ghost use Rattle.rv_union.specs.Leaves.{LeavesFall, leaves_left};
-ghost use Rattle.rv_union.specs.Given.{Awaits, TakesLeaf, TakesPiece, awaited, count_read, piece_read};
+ghost use Rattle.rv_union.specs.Given.{Awaits, TakesLeaf, TakesPiece, Took, awaited, count_read, piece_read};
 ghost use Rattle.rv_union.specs.Runs.{IsOfUndropped, Tells};
 ghost use Rattle.rv_union.specs.Unioned.{SameUnion, UnionFits, rest};
 ghost use Rattle.rv_final.specs.Shell.{scanning};
@@ -24,12 +24,9 @@ impl Union {
     ) -> Result<Piece, NoMemory>
         requires under_way { scanning self.old.control ≡ true }
         requires fits { UnionFits self.old (R.shown reader.now) }
-        ensures leaves { TakesLeaf self.old self.new }
-        ensures told { self.new.trace ≡ self.old.trace }
+        ensures took { Took (R.shown reader.now) steps.old steps.new self.old self.new }
         ensures taken { IfOk result (Awaits self.new) }
         ensures err { OnErr result (self.new ≡ record self.old { count = count_read self.old }) }
-        ensures fits { UnionFits self.new (R.shown reader.now) }
-        ensures reads { steps.new ≡ piece_read self.old steps.old }
     {
         self.count_read();
         let id = self.next_id();
@@ -44,12 +41,9 @@ impl Union {
         steps: &mut Steps<R::Ledger>,
     ) -> Result<Taken, NoMemory>
         requires fits { UnionFits self.old (R.shown reader.now) }
-        ensures leaves { TakesLeaf self.old self.new }
-        ensures told { self.new.trace ≡ self.old.trace }
+        ensures took { Took (R.shown reader.now) steps.old steps.new self.old self.new }
         ensures taken { IfOk result (TakesPiece self.new) }
         ensures untaken { OnErr result (self.new.lane.held ≡ self.old.lane.held) }
-        ensures fits { UnionFits self.new (R.shown reader.now) }
-        ensures reads { steps.new ≡ piece_read self.old steps.old }
     {
         if !self.is_scanning() {
             return Ok(Taken::Nothing);

@@ -9,20 +9,16 @@ take_lane-requires-clause-can g c = took_can c.args.self.now c.count_read.new.se
 pub take_lane-requires-clause-fits : goal.take_lane-requires-clause-fits
 take_lane-requires-clause-fits g c = took_lane c.args.self.now c.count_read.new.self (g.R.Reader.shown c.args.reader.now) c.count_read.ensures c.requires.fits
 
-pub returns-clause-leaves : goal.returns-clause-leaves
-returns-clause-leaves g c = took_leaves c.args.self.now c.count_read.new.self c.take_lane.new.self c.requires.under_way c.count_read.ensures c.take_lane.ensures.same c.take_lane.ensures.held
-
-pub returns-clause-told : goal.returns-clause-told
-returns-clause-told g c = took_trace c.args.self.now c.count_read.new.self c.take_lane.new.self c.count_read.ensures c.take_lane.ensures.same
+pub returns-clause-took : goal.returns-clause-took
+returns-clause-took g c = record {
+  leaves = took_leaves c.args.self.now c.count_read.new.self c.take_lane.new.self c.requires.under_way c.count_read.ensures c.take_lane.ensures.same c.take_lane.ensures.held;
+  told = took_trace c.args.self.now c.count_read.new.self c.take_lane.new.self c.count_read.ensures c.take_lane.ensures.same;
+  fits = took_fits c.args.self.now c.count_read.new.self c.take_lane.new.self (g.R.Reader.shown c.args.reader.now) c.requires.under_way c.count_read.ensures c.take_lane.ensures.same c.take_lane.ensures.fits c.requires.fits;
+  reads = took_reads c.args.self.now c.count_read.new.self c.args.steps.now c.take_lane.new.steps c.requires.under_way c.count_read.ensures c.take_lane.ensures.reads;
+}
 
 pub returns-clause-taken : goal.returns-clause-taken
 returns-clause-taken g c = took_taken c.take_lane.result c.args.self.now c.count_read.new.self c.take_lane.new.self c.next_id-id.result c.requires.under_way c.count_read.ensures c.next_id-id.ensures c.take_lane.ensures.same c.take_lane.ensures.taken
 
 pub returns-clause-err : goal.returns-clause-err
 returns-clause-err g c = subst (λ (x : Unioned). OnErr c.take_lane.result (c.take_lane.new.self ≡ x)) c.count_read.ensures c.take_lane.ensures.err
-
-pub returns-clause-fits : goal.returns-clause-fits
-returns-clause-fits g c = took_fits c.args.self.now c.count_read.new.self c.take_lane.new.self (g.R.Reader.shown c.args.reader.now) c.requires.under_way c.count_read.ensures c.take_lane.ensures.same c.take_lane.ensures.fits c.requires.fits
-
-pub returns-clause-reads : goal.returns-clause-reads
-returns-clause-reads g c = took_reads c.args.self.now c.count_read.new.self c.args.steps.now c.take_lane.new.steps c.requires.under_way c.count_read.ensures c.take_lane.ensures.reads
