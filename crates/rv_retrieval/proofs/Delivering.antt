@@ -240,7 +240,7 @@ index_only_is FastFirst h = absurd (cc)
 index_only_is Sorted h = absurd (cc)
 index_only_is IndexOnly h = refl
 
-both_full : (v : Shape) → (is_building v.control && is_index_only v.strategy) ≡ true → next_control v.strategy v.control Full ≡ ForegroundAlone
+pub both_full : (v : Shape) → (is_building v.control && is_index_only v.strategy) ≡ true → next_control v.strategy v.control Full ≡ ForegroundAlone
 both_full v b = ap (λ (x : Control). next_control v.strategy x Full) (building_is v.control (first_so (is_building v.control) (is_index_only v.strategy) b)) ∙ ap (λ (x : Strategy). next_control x Building Full) (index_only_is v.strategy (second_so (is_building v.control) (is_index_only v.strategy) b))
 
 both_source : (v : Shape) (c : Control) → (is_building v.control && is_index_only v.strategy) ≡ true → (c ≡ v.control) ⊎ (c ≡ next_control v.strategy v.control Full) → source_of c v.strategy ≡ Ahead

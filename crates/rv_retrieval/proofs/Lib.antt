@@ -31,5 +31,6 @@ pub mod Began
 pub mod Waiting
 pub mod Remembering
 pub mod Worked
+pub mod Ahead
 pub mod Wholes
 pub mod InPlace

@@ -28,7 +28,7 @@ use Rattle.rv_retrieval.specs.Accounts.{fresh_of}
 use Rattle.rv_retrieval.specs.Effort.{Awaiting, keys_work}
 use Rattle.rv_retrieval.specs.Given.{TakesLeaf}
 use Rattle.rv_retrieval.specs.Rulings.{GivesOn, gone}
-use Rattle.rv_retrieval.specs.Shape.{Shape, is_background, is_sorted, rows_of}
+use Rattle.rv_retrieval.specs.Shape.{Shape, is_background, is_building, is_index_only, is_sorted, rows_of}
 use Rattle.rv_final.specs.Stage.{FetchesKey, first_key}
 use Rattle.rv_final.specs.Work.{Falls}
 use Rattle.rv_scan.specs.Fronts.{FrontMayRead, FrontReads, SameFront}
@@ -81,6 +81,17 @@ abbrev pub RemembersBy : Step Record → Shape → Shape → Type 0
 RemembersBy (Row r) old new = Remembered r.row.0 old new
 RemembersBy Working old new = new ≡ old
 RemembersBy End old new = new ≡ gone FrontEnded old
+
+-- a row that the foreground's scan gives is remembered where an index-only one runs beside the background
+pub record GivesAhead (row : ℕ) (old new : Shape) : Type 0 where
+  pub fills : (is_building old.control && is_index_only old.strategy) ≡ true → Remembered row old new
+  pub forgets : (is_building old.control && is_index_only old.strategy) ≡ false → new ≡ old
+
+-- what the scan's answer leads to
+abbrev pub LeavesAhead : Step Record → Shape → Shape → Type 0
+LeavesAhead (Row r) old new = GivesAhead r.row.0 old new
+LeavesAhead Working old new = new ≡ old
+LeavesAhead End old new = new ≡ gone FrontEnded old
 
 -- the record of a row was read; a sorted foreground reads none that the complete list cannot have
 pub record WalkRow (v : Shape) (shown : Shown) (c d : Counts) (s : Step Record) : Type 0 where

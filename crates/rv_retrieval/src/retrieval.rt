@@ -3,7 +3,7 @@ ghost use Rattle.std.specs.Option.{option_copied};
 ghost use Rattle.rv_keylist.specs.Keys.{has_key};
 ghost use Rattle.rv_reader.specs.Shown.{Shown, CanRead};
 ghost use Rattle.rv_reader.specs.Tables.{IsTable, row_at};
-ghost use Rattle.rv_scan.specs.Alongs.{Follows, looked};
+ghost use Rattle.rv_scan.specs.Alongs.{looked};
 ghost use Rattle.rv_scan.specs.Places.{Fits as PlaceFits, PageReads, PageTurns, unseen};
 ghost use Rattle.rv_scan.specs.Due.{HaveColumns};
 ghost use Rattle.rv_jscan.specs.Joint.{CanTake, JointFits, keys_of, leaves_ahead, under_way};
@@ -11,8 +11,7 @@ ghost use Rattle.rv_jscan.specs.Steps.{Gives, Nearer, TakeLeaves, Takes, Works, 
 ghost use Rattle.rv_judge.specs.Account.{facts_of, guarantee_with};
 ghost use Rattle.rv_judge.specs.Counting.{page_read};
 ghost use Rattle.rv_retrieval.specs.Accounts.{NextBorrowed, account_of};
-ghost use Rattle.rv_retrieval.specs.Fronts.{front_left};
-ghost use Rattle.rv_scan.specs.Fronts.{SameFront, walk_of, FrontMayRead, FrontReads};
+ghost use Rattle.rv_scan.specs.Fronts.{FrontMayRead, FrontReads};
 ghost use Rattle.rv_retrieval.specs.Given.{awaited, more_behind};
 ghost use Rattle.rv_choice.specs.Choice.{AreScans};
 ghost use Rattle.rv_choice.specs.Leading.{front_begun, front_candidate, guarantee_of};
@@ -21,23 +20,23 @@ ghost use Rattle.rv_retrieval.specs.Opens.{first_of};
 ghost use Rattle.rv_judge.specs.Runs.{Allowed};
 ghost use Rattle.rv_final.specs.Rest.{StepMarks};
 ghost use Rattle.rv_retrieval.specs.Runs.{Tells, indexes_asked};
-ghost use Rattle.rv_retrieval.specs.Shape.{LeastOf, Remembers, RetrievalFits, Source, left_at, lending, front_entries, is_background, is_led, is_sorted, rows_of};
+ghost use Rattle.rv_retrieval.specs.Shape.{DoesStep, EndsIn, Remembers, RetrievalFits, Source, is_background, is_building, is_index_only, is_sorted, left_at, lending, rows_of, source};
 ghost use Rattle.rv_retrieval.specs.Room.{HasRoom, must_remember, rows_given};
 ghost use Rattle.rv_keylist.specs.Rows.{AddsRow};
 ghost use Rattle.rv_final.specs.Stage.{LastFits, PassesKeys, given_as};
-ghost use Rattle.rv_retrieval.specs.Stepping.{ListReads, WalkReads};
+ghost use Rattle.rv_retrieval.specs.Stepping.{LeavesAhead, ListReads, Steady, WalkReads};
 ghost use Rattle.rv_retrieval.specs.Telling.{index_of, list_len};
 ghost use Rattle.rv_judge.specs.Tracing.{counted, new_trace, noted};
-ghost use Rattle.rv_retrieval.specs.Effort.{front_work, keys_work, table_work};
+ghost use Rattle.rv_retrieval.specs.Effort.{effort, keys_work, table_work};
 ghost use Rattle.rv_final.specs.Work.{Falls, Tries};
 ghost use Rattle.rv_scan.specs.Reads.{OneAtMost};
 ghost use Rattle.rv_judge.specs.Counting.{record_read};
-ghost use Rattle.rv_retrieval.specs.Short.{OnlyLeaves, scan_fetches};
+ghost use Rattle.rv_retrieval.specs.Short.{OnlyLeaves, Settled, fetches_left};
 
 use rv_choice::{Background, Candidate, Choice, Query, foreground, guarantee, nowhere, scans};
 use rv_final::{Final, examine};
 use rv_jscan::{Given, Jscan, PieceId, ScanPlan, Sieved, Taken};
-use rv_judge::{Control, Counts, Event, Facts, Steps, Strategy, Trace, project};
+use rv_judge::{Control, Counts, Event, Facts, Happening, Steps, Strategy, Trace, project};
 use rv_keylist::{Delivered, KeyList};
 use rv_reader::{Reader, Step};
 use rv_restrict::Restriction;
@@ -172,6 +171,27 @@ impl Retrieval {
             Control::Building | Control::BackgroundAlone => true,
             Control::ForegroundAlone | Control::FinalList | Control::FinalTable | Control::Done =>
                 false,
+        }
+    }
+
+    /// Whether the rows that the foreground's scan gives are remembered: an index-only one runs beside the background.
+    pub(crate) fn is_beside(&self) -> bool
+        ensures { result ≡ (is_building self.now.control && is_index_only self.now.strategy) }
+    {
+        match self.control {
+            Control::Building => match self.strategy {
+                Strategy::IndexOnly => true,
+                Strategy::Table
+                | Strategy::BackgroundOnly
+                | Strategy::FastFirst
+                | Strategy::Sorted
+                | Strategy::Union => false,
+            },
+            Control::ForegroundAlone
+            | Control::BackgroundAlone
+            | Control::FinalList
+            | Control::FinalTable
+            | Control::Done => false,
         }
     }
 
@@ -334,33 +354,45 @@ impl Retrieval {
         }
     }
 
-    /// One step along the foreground's index. It counts what was read, and delivers nothing by itself.
-    pub(crate) fn scan_front<R: Reader>(
+    /// A step along the foreground's index, whose end leads to the last control. The rows that an index-only foreground
+    /// gives while both sides run are remembered.
+    pub(crate) fn front_step<R: Reader>(
         &mut self,
         reader: &R,
         steps: &mut Steps<R::Ledger>,
     ) -> Result<Step<Record>, NoMemory>
+        requires front { source self.old ≡ Source.Ahead }
         requires fits { RetrievalFits self.old (R.shown reader.now) }
-        requires led { is_led self.old.strategy ≡ true }
-        ensures same { self.new ≡ record self.old { front = self.new.front } }
-        ensures front { SameFront self.old.front self.new.front }
-        ensures follows { Follows (walk_of self.new.front) (front_entries self.old (R.shown reader.now)) }
-        ensures least { is_sorted self.old.strategy ≡ true → IfOk result (LeastOf self.old (R.shown reader.now)) }
-        ensures marks { let shown = R.shown reader.now in IfOk result (λ s. StepMarks self.old.query.need self.old.query.only (rows_of self.old shown) s (front_left self.old.front (front_entries self.old shown)) (front_left self.new.front (front_entries self.old shown))) }
-        ensures fetches { IfOk result (WalkReads self.old (R.shown reader.now) steps.old steps.new) }
+        ensures steady { Steady self.old self.new }
+        ensures fits { RetrievalFits self.new (R.shown reader.now) }
+        ensures step { IfOk result (DoesStep self.old self.new (R.shown reader.now)) }
+        ensures ends { IfOk result (EndsIn self.new) }
         ensures err { OnErr result (self.new ≡ self.old) }
-        ensures tries { Tries steps.old steps.new (front_work self.old (R.shown reader.now)) (front_work self.new (R.shown reader.now)) }
-        ensures falls { IfOk result (λ s. Falls s steps.old steps.new (front_work self.old (R.shown reader.now)) (front_work self.new (R.shown reader.now))) }
-        ensures records { is_sorted self.old.strategy ≡ true → IfOk result (λ s. steps.new.records + scan_fetches self.new (R.shown reader.now) ≤ steps.old.records + scan_fetches self.old (R.shown reader.now)) }
-        ensures pages { steps.new.pages ≡ steps.old.pages }
+        ensures does { IfOk result (λ s. LeavesAhead s (record self.old { front = self.new.front }) self.new) }
         ensures may_read { FrontMayRead self.old.front.alone steps.old steps.new }
         ensures reads { IfOk result (λ s. FrontReads self.old.front.alone s steps.old steps.new) }
+        ensures tries { Tries steps.old steps.new (effort self.old (R.shown reader.now)) (effort self.new (R.shown reader.now)) }
+        ensures falls { IfOk result (λ s. Falls s steps.old steps.new (effort self.old (R.shown reader.now)) (effort self.new (R.shown reader.now))) }
+        ensures fetches { IfOk result (WalkReads self.old (R.shown reader.now) steps.old steps.new) }
+        ensures records { Settled self.old → IfOk result (λ s. steps.new.records + fetches_left self.new (R.shown reader.now) ≤ steps.old.records + fetches_left self.old (R.shown reader.now)) }
+        ensures pages { steps.new.pages ≡ steps.old.pages }
+        ensures settled { Settled self.old → Settled self.new }
     {
         let skip = Skip {
             delivered: None,
             list: hiding(self.strategy, self.joint.list()),
         };
-        self.front.step(reader, &self.query.only, &skip, steps)
+        match self.front.step(reader, &self.query.only, &skip, steps)? {
+            Step::Row(record) => {
+                self.give_ahead(record.row);
+                Ok(Step::Row(record))
+            }
+            Step::Working => Ok(Step::Working),
+            Step::End => {
+                self.go(Happening::FrontEnded);
+                Ok(Step::End)
+            }
+        }
     }
 
     /// A step through the complete list.

@@ -1,18 +1,17 @@
 ghost use Rattle.std.specs.Prelude.{◌≡◌, ◌+◌, ◌-◌, ◌^◌, ◌<◌, ◌≤◌, ◌&&◌, ◌⊎◌, true, false, length, IfOk, IfSome, OnErr, Ok};
 ghost use Rattle.rv_keylist.specs.Keys.{has_key};
-ghost use Rattle.rv_judge.specs.Counting.{leaf_read, page_read, record_read};
+ghost use Rattle.rv_judge.specs.Counting.{page_read, record_read};
 ghost use Rattle.rv_reader.specs.Shown.{Shown};
 ghost use Rattle.rv_reader.specs.Tables.{row_at};
 ghost use Rattle.rv_scan.specs.Alongs.{looked};
 ghost use Rattle.rv_scan.specs.Places.{PageReads, PageTurns};
-ghost use Rattle.rv_scan.specs.Told.{KeyReads};
 ghost use Rattle.rv_jscan.specs.Joint.{under_way};
 ghost use Rattle.rv_retrieval.specs.Accounts.{IsFresh, first_fresh};
-ghost use Rattle.rv_scan.specs.Fronts.{SameFront, FrontMayRead, FrontReads};
+ghost use Rattle.rv_scan.specs.Fronts.{SameFront};
 ghost use Rattle.rv_retrieval.specs.Room.{must_remember};
 ghost use Rattle.rv_retrieval.specs.Runs.{SameCourse, Tells};
-ghost use Rattle.rv_retrieval.specs.Shape.{Delivers, DoesStep, EndsIn, RetrievalFits, Source, is_background, is_building, is_index_only, rest, source, lending, rows_of};
-ghost use Rattle.rv_retrieval.specs.Stepping.{Borrows, DoesIts, MayReadIts, OnlyTakes, ReadsIts, Remembered, RemembersBy, Steady, StepsAs, WalkReads, ended_by};
+ghost use Rattle.rv_retrieval.specs.Shape.{Delivers, DoesStep, EndsIn, RetrievalFits, is_background, is_building, is_index_only, rest, lending, rows_of};
+ghost use Rattle.rv_retrieval.specs.Stepping.{GivesAhead, Borrows, DoesIts, MayReadIts, OnlyTakes, ReadsIts, Remembered, Steady, StepsAs, ended_by};
 ghost use Rattle.rv_judge.specs.Tracing.{CountsRise, SameCounts};
 ghost use Rattle.rv_retrieval.specs.Effort.{Awaiting, effort, to_borrow};
 ghost use Rattle.rv_final.specs.LaneWork.{Spends};
@@ -174,69 +173,15 @@ impl Retrieval {
         }
     }
 
-    /// A step of the foreground's scan, which remembers nothing.
-    fn front_step<R: Reader>(
-        &mut self,
-        reader: &R,
-        steps: &mut Steps<R::Ledger>,
-    ) -> Result<Step<Record>, NoMemory>
-        requires front { source self.old ≡ Source.Ahead }
-        requires forgets { (is_building self.old.control && is_index_only self.old.strategy) ≡ false }
-        requires fits { RetrievalFits self.old (R.shown reader.now) }
-        ensures steady { Steady self.old self.new }
-        ensures fits { RetrievalFits self.new (R.shown reader.now) }
-        ensures step { IfOk result (DoesStep self.old self.new (R.shown reader.now)) }
-        ensures ends { IfOk result (EndsIn self.new) }
-        ensures err { OnErr result (self.new ≡ self.old) }
-        ensures does { IfOk result (λ s. self.new ≡ ended_by Happening.FrontEnded s (record self.old { front = self.new.front })) }
-        ensures may_read { FrontMayRead self.old.front.alone steps.old steps.new }
-        ensures reads { IfOk result (λ s. FrontReads self.old.front.alone s steps.old steps.new) }
-        ensures tries { Tries steps.old steps.new (effort self.old (R.shown reader.now)) (effort self.new (R.shown reader.now)) }
-        ensures falls { IfOk result (λ s. Falls s steps.old steps.new (effort self.old (R.shown reader.now)) (effort self.new (R.shown reader.now))) }
-        ensures fetches { IfOk result (WalkReads self.old (R.shown reader.now) steps.old steps.new) }
-        ensures records { Settled self.old → IfOk result (λ s. steps.new.records + fetches_left self.new (R.shown reader.now) ≤ steps.old.records + fetches_left self.old (R.shown reader.now)) }
-        ensures pages { steps.new.pages ≡ steps.old.pages }
-        ensures settled { Settled self.old → Settled self.new }
+    /// Remembers a row that the foreground's scan gives, where an index-only one runs beside the background.
+    pub(crate) fn give_ahead(&mut self, row: RowNo)
+        requires room { (is_building self.old.control && is_index_only self.old.strategy) ≡ true → length self.old.delivered < 1024 }
+        requires fresh { (is_building self.old.control && is_index_only self.old.strategy) ≡ true → has_key row.0 self.old.delivered ≡ false }
+        ensures delivers { (is_building self.old.control && is_index_only self.old.strategy) ≡ true → Delivers self.old self.new row.0 }
+        ensures gives { GivesAhead row.0 self.old self.new }
     {
-        match self.scan_front(reader, steps)? {
-            Step::Row(record) => Ok(Step::Row(record)),
-            Step::Working => Ok(Step::Working),
-            Step::End => {
-                self.go(Happening::FrontEnded);
-                Ok(Step::End)
-            }
-        }
-    }
-
-    /// A step of an index-only foreground while both sides run: the rows that it gives are remembered.
-    fn both_step<R: Reader>(
-        &mut self,
-        reader: &R,
-        steps: &mut Steps<R::Ledger>,
-    ) -> Result<Step<Record>, NoMemory>
-        requires both { (is_building self.old.control && is_index_only self.old.strategy) ≡ true }
-        requires fits { RetrievalFits self.old (R.shown reader.now) }
-        ensures steady { Steady self.old self.new }
-        ensures fits { RetrievalFits self.new (R.shown reader.now) }
-        ensures step { IfOk result (DoesStep self.old self.new (R.shown reader.now)) }
-        ensures ends { IfOk result (EndsIn self.new) }
-        ensures err { OnErr result (self.new ≡ self.old) }
-        ensures does { IfOk result (λ s. RemembersBy s (record self.old { front = self.new.front }) self.new) }
-        ensures may_read { OneAtMost leaf_read steps.old steps.new }
-        ensures reads { IfOk result (λ s. KeyReads s steps.old steps.new) }
-        ensures tries { Tries steps.old steps.new (effort self.old (R.shown reader.now)) (effort self.new (R.shown reader.now)) }
-        ensures falls { IfOk result (λ s. Falls s steps.old steps.new (effort self.old (R.shown reader.now)) (effort self.new (R.shown reader.now))) }
-    {
-        match self.scan_front(reader, steps)? {
-            Step::Row(record) => {
-                self.deliver(record.row);
-                Ok(Step::Row(record))
-            }
-            Step::Working => Ok(Step::Working),
-            Step::End => {
-                self.go(Happening::FrontEnded);
-                Ok(Step::End)
-            }
+        if self.is_beside() {
+            self.deliver(row);
         }
     }
 
@@ -270,8 +215,7 @@ impl Retrieval {
         match self.control() {
             Control::Building => match self.strategy() {
                 Strategy::FastFirst => self.fast_step(reader, judge, steps),
-                Strategy::Sorted => self.front_step(reader, steps),
-                Strategy::IndexOnly => self.both_step(reader, steps),
+                Strategy::Sorted | Strategy::IndexOnly => self.front_step(reader, steps),
                 Strategy::Table | Strategy::BackgroundOnly | Strategy::Union => {
                     self.background_step(reader, judge, steps)
                 }

@@ -2,15 +2,16 @@ use Rattle.std.proofs.Common.{◌∙◌, ap, refl, sym, ◌≡◌, ◌⊎◌, �
 use Rattle.rv_judge.specs.declared.events.Control.TheVariants.{ForegroundAlone, BackgroundAlone, FinalList, FinalTable}
 use Rattle.rv_value.proofs.Lists.{on_err}
 use Rattle.rv_retrieval.specs.Accounts.{fresh_of}
-use Rattle.rv_retrieval.specs.Shape.{is_background, is_building, is_index_only, source_of, while_building}
-use Rattle.rv_retrieval.specs.Stepping.{NextKey, NextPage, Piece, Walk, WalkBoth}
-use Rattle.rv_retrieval.proofs.OfKinds.{course_if, does_by, key_does, kind_at, may_read_by, page_does, reads_always, reads_as, reads_by, rest_if, walk_does, both_does, index_only_kind, sorted_kind}
+use Rattle.rv_retrieval.specs.Shape.{is_background, is_building, is_index_only}
+use Rattle.rv_retrieval.specs.Stepping.{NextKey, NextPage, Piece, Walk}
+use Rattle.rv_retrieval.proofs.Ahead.{ahead_forgets, beside_ahead, beside_does, beside_may_read, beside_reads}
+use Rattle.rv_retrieval.proofs.OfKinds.{course_if, does_by, key_does, kind_at, may_read_by, page_does, reads_always, reads_as, reads_by, rest_if, walk_does}
 use Rattle.rv_retrieval.proofs.Waiting.{keys_only, only_if, steady_at}
 use Rattle.rv_retrieval.proofs.Controls.{done_rest, passed_rest}
 use Rattle.rv_retrieval.proofs.Listed.{at_course, at_settled, keys_fit, keys_try, list_control, list_does, list_ended_by, list_ends, list_falls, list_fits, list_keys, list_records, list_settled, list_steady, list_tries, not_done}
 use Rattle.rv_judge.specs.declared.events.Control.{Control}
 use Rattle.rv_judge.specs.declared.events.Strategy.{Strategy}
-use Rattle.rv_judge.specs.declared.events.Strategy.TheVariants.{Table, BackgroundOnly, Union}
+use Rattle.rv_judge.specs.declared.events.Strategy.TheVariants.{Table, BackgroundOnly, Sorted, IndexOnly, Union}
 use Rattle.rv_retrieval.proofs.Stepped.{background_kind, piece_does}
 use Rattle.rv_retrieval.proofs.retrieval.Retrieval.step.Goals as goal
 
@@ -18,6 +19,10 @@ of_one : (s r : Strategy) → r ≡ s → (r ≡ Table) ⊎ ((r ≡ BackgroundOn
 of_one s r is (inl table) = inl (sym is ∙ table)
 of_one s r is (inr (inl alone)) = inr (inl (sym is ∙ alone))
 of_one s r is (inr (inr union)) = inr (inr (sym is ∙ union))
+
+of_two : (s r : Strategy) → r ≡ s → (r ≡ Sorted) ⊎ (r ≡ IndexOnly) → (s ≡ Sorted) ⊎ (s ≡ IndexOnly)
+of_two s r is (inl sorted) = inl (sym is ∙ sorted)
+of_two s r is (inr alone) = inr (sym is ∙ alone)
 
 pub returns-in-FastFirst-clause-steady : goal.returns-in-FastFirst-clause-steady
 returns-in-FastFirst-clause-steady g c = c.fast_step.ensures.steady
@@ -94,65 +99,29 @@ returns-in-Sorted-clause-quiet g c = on_err _ _ refl
 pub returns-in-Sorted-clause-stays : goal.returns-in-Sorted-clause-stays
 returns-in-Sorted-clause-stays g c = refl
 
+pub returns-in-Sorted-clause-settled : goal.returns-in-Sorted-clause-settled
+returns-in-Sorted-clause-settled g c = c.front_step.ensures.settled
+
+pub returns-in-Sorted-clause-records : goal.returns-in-Sorted-clause-records
+returns-in-Sorted-clause-records g c = c.front_step.ensures.records
+
+pub returns-in-Sorted-clause-pages : goal.returns-in-Sorted-clause-pages
+returns-in-Sorted-clause-pages g c settled = c.front_step.ensures.pages
+
+pub returns-in-Sorted-clause-unasked : goal.returns-in-Sorted-clause-unasked
+returns-in-Sorted-clause-unasked g c settled = refl
+
 pub returns-in-Sorted-clause-does : goal.returns-in-Sorted-clause-does
-returns-in-Sorted-clause-does g c way = walk_does c.front_step.result _ _ (g.R.Reader.shown c.args.reader.now) c.args.steps.now c.front_step.new.steps c.args.self.now c.front_step.new.self (sorted_kind c.args.self.now.control c.args.self.now.strategy (fresh_of c.args.self.now) (sym c.control.ensures ∙ c.in-Building.is) (sym c.strategy.ensures ∙ c.in-Sorted.is)) c.front_step.ensures.fetches c.front_step.ensures.does
+returns-in-Sorted-clause-does g c way = beside_does c.front_step.result _ _ (g.R.Reader.shown c.args.reader.now) c.args.steps.now c.front_step.new.steps c.args.self.now c.front_step.new.self (sym c.control.ensures ∙ c.in-Building.is) (of_two _ c.strategy.result c.strategy.ensures c.in-Sorted.is) c.front_step.ensures.fetches c.front_step.ensures.does
 
 pub returns-in-Sorted-clause-may_read : goal.returns-in-Sorted-clause-may_read
-returns-in-Sorted-clause-may_read g c way = may_read_by Walk c.args.self.now c.args.steps.now c.front_step.new.steps (sorted_kind c.args.self.now.control c.args.self.now.strategy (fresh_of c.args.self.now) (sym c.control.ensures ∙ c.in-Building.is) (sym c.strategy.ensures ∙ c.in-Sorted.is)) c.front_step.ensures.may_read
+returns-in-Sorted-clause-may_read g c way = beside_may_read c.args.self.now (g.R.Reader.shown c.args.reader.now) c.args.steps.now c.front_step.new.steps (sym c.control.ensures ∙ c.in-Building.is) (of_two _ c.strategy.result c.strategy.ensures c.in-Sorted.is) c.requires.fits c.front_step.ensures.may_read
 
 pub returns-in-Sorted-clause-reads : goal.returns-in-Sorted-clause-reads
-returns-in-Sorted-clause-reads g c way = reads_by c.front_step.result Walk c.args.self.now c.args.steps.now c.front_step.new.steps (sorted_kind c.args.self.now.control c.args.self.now.strategy (fresh_of c.args.self.now) (sym c.control.ensures ∙ c.in-Building.is) (sym c.strategy.ensures ∙ c.in-Sorted.is)) c.front_step.ensures.reads
-
-pub returns-in-IndexOnly-clause-steady : goal.returns-in-IndexOnly-clause-steady
-returns-in-IndexOnly-clause-steady g c = c.both_step.ensures.steady
-
-pub returns-in-IndexOnly-clause-fits : goal.returns-in-IndexOnly-clause-fits
-returns-in-IndexOnly-clause-fits g c = c.both_step.ensures.fits
-
-pub returns-in-IndexOnly-clause-step : goal.returns-in-IndexOnly-clause-step
-returns-in-IndexOnly-clause-step g c = c.both_step.ensures.step
-
-pub returns-in-IndexOnly-clause-ends : goal.returns-in-IndexOnly-clause-ends
-returns-in-IndexOnly-clause-ends g c = c.both_step.ensures.ends
-
-pub returns-in-IndexOnly-clause-tries : goal.returns-in-IndexOnly-clause-tries
-returns-in-IndexOnly-clause-tries g c = c.both_step.ensures.tries
-
-pub returns-in-IndexOnly-clause-falls : goal.returns-in-IndexOnly-clause-falls
-returns-in-IndexOnly-clause-falls g c a = c.both_step.ensures.falls
-
-pub returns-in-IndexOnly-clause-err : goal.returns-in-IndexOnly-clause-err
-returns-in-IndexOnly-clause-err g c = rest_if c.both_step.result c.args.self.now c.both_step.new.self (g.R.Reader.shown c.args.reader.now) c.both_step.ensures.err
-
-pub returns-in-IndexOnly-clause-still : goal.returns-in-IndexOnly-clause-still
-returns-in-IndexOnly-clause-still g c = only_if c.both_step.result c.args.self.now c.both_step.new.self c.both_step.ensures.err
-
-pub returns-in-IndexOnly-clause-course : goal.returns-in-IndexOnly-clause-course
-returns-in-IndexOnly-clause-course g c = course_if c.both_step.result c.args.self.now c.both_step.new.self c.both_step.ensures.err
-
-pub returns-in-IndexOnly-clause-quiet : goal.returns-in-IndexOnly-clause-quiet
-returns-in-IndexOnly-clause-quiet g c = on_err _ _ refl
-
-pub returns-in-IndexOnly-clause-stays : goal.returns-in-IndexOnly-clause-stays
-returns-in-IndexOnly-clause-stays g c = refl
-
-pub returns-in-IndexOnly-clause-does : goal.returns-in-IndexOnly-clause-does
-returns-in-IndexOnly-clause-does g c way = both_does c.both_step.result _ _ (g.R.Reader.shown c.args.reader.now) c.args.steps.now c.both_step.new.steps c.args.self.now c.both_step.new.self (index_only_kind c.args.self.now.control c.args.self.now.strategy (fresh_of c.args.self.now) (sym c.control.ensures ∙ c.in-Building.is) (sym c.strategy.ensures ∙ c.in-IndexOnly.is)) c.both_step.ensures.does
-
-pub returns-in-IndexOnly-clause-may_read : goal.returns-in-IndexOnly-clause-may_read
-returns-in-IndexOnly-clause-may_read g c way = may_read_by WalkBoth c.args.self.now c.args.steps.now c.both_step.new.steps (index_only_kind c.args.self.now.control c.args.self.now.strategy (fresh_of c.args.self.now) (sym c.control.ensures ∙ c.in-Building.is) (sym c.strategy.ensures ∙ c.in-IndexOnly.is)) c.both_step.ensures.may_read
-
-pub returns-in-IndexOnly-clause-reads : goal.returns-in-IndexOnly-clause-reads
-returns-in-IndexOnly-clause-reads g c way = reads_by c.both_step.result WalkBoth c.args.self.now c.args.steps.now c.both_step.new.steps (index_only_kind c.args.self.now.control c.args.self.now.strategy (fresh_of c.args.self.now) (sym c.control.ensures ∙ c.in-Building.is) (sym c.strategy.ensures ∙ c.in-IndexOnly.is)) c.both_step.ensures.reads
+returns-in-Sorted-clause-reads g c way = beside_reads c.front_step.result c.args.self.now (g.R.Reader.shown c.args.reader.now) c.args.steps.now c.front_step.new.steps (sym c.control.ensures ∙ c.in-Building.is) (of_two _ c.strategy.result c.strategy.ensures c.in-Sorted.is) c.requires.fits c.front_step.ensures.reads
 
 pub front_step-requires-clause-front : goal.front_step-requires-clause-front
-front_step-requires-clause-front g c = ap (λ (x : Control). source_of x c.args.self.now.strategy) (sym c.control.ensures ∙ c.in-Building.is) ∙ ap while_building (sym c.strategy.ensures ∙ c.in-Sorted.is)
-
-pub front_step-requires-clause-forgets : goal.front_step-requires-clause-forgets
-front_step-requires-clause-forgets g c = ap (λ (x : Control). is_building x && is_index_only c.args.self.now.strategy) (sym c.control.ensures ∙ c.in-Building.is) ∙ ap is_index_only (sym c.strategy.ensures ∙ c.in-Sorted.is)
-
-pub both_step-requires-clause-both : goal.both_step-requires-clause-both
-both_step-requires-clause-both g c = ap (λ (x : Control). is_building x && is_index_only c.args.self.now.strategy) (sym c.control.ensures ∙ c.in-Building.is) ∙ ap is_index_only (sym c.strategy.ensures ∙ c.in-IndexOnly.is)
+front_step-requires-clause-front g c = beside_ahead c.args.self.now (sym c.control.ensures ∙ c.in-Building.is) (of_two _ c.strategy.result c.strategy.ensures c.in-Sorted.is)
 
 pub returns-in-Table-clause-steady : goal.returns-in-Table-clause-steady
 returns-in-Table-clause-steady g c = c.background_step.ensures.steady
@@ -237,7 +206,7 @@ pub returns-in-ForegroundAlone-clause-falls : goal.returns-in-ForegroundAlone-cl
 returns-in-ForegroundAlone-clause-falls g c a = c.front_step-in-ForegroundAlone.ensures.falls
 
 pub returns-in-ForegroundAlone-clause-does : goal.returns-in-ForegroundAlone-clause-does
-returns-in-ForegroundAlone-clause-does g c way = walk_does c.front_step-in-ForegroundAlone.result _ _ (g.R.Reader.shown c.args.reader.now) c.args.steps.now c.front_step-in-ForegroundAlone.new.steps c.args.self.now c.front_step-in-ForegroundAlone.new.self (kind_at c.args.self.now.control ForegroundAlone c.args.self.now.strategy (fresh_of c.args.self.now) (sym c.control.ensures ∙ c.in-ForegroundAlone.is)) c.front_step-in-ForegroundAlone.ensures.fetches c.front_step-in-ForegroundAlone.ensures.does
+returns-in-ForegroundAlone-clause-does g c way = walk_does c.front_step-in-ForegroundAlone.result _ _ (g.R.Reader.shown c.args.reader.now) c.args.steps.now c.front_step-in-ForegroundAlone.new.steps c.args.self.now c.front_step-in-ForegroundAlone.new.self (kind_at c.args.self.now.control ForegroundAlone c.args.self.now.strategy (fresh_of c.args.self.now) (sym c.control.ensures ∙ c.in-ForegroundAlone.is)) c.front_step-in-ForegroundAlone.ensures.fetches (ahead_forgets c.front_step-in-ForegroundAlone.result c.args.self.now c.front_step-in-ForegroundAlone.new.self (ap (λ (x : Control). is_building x && is_index_only c.args.self.now.strategy) (sym c.control.ensures ∙ c.in-ForegroundAlone.is)) c.front_step-in-ForegroundAlone.ensures.does)
 
 pub returns-in-ForegroundAlone-clause-may_read : goal.returns-in-ForegroundAlone-clause-may_read
 returns-in-ForegroundAlone-clause-may_read g c way = may_read_by Walk c.args.self.now c.args.steps.now c.front_step-in-ForegroundAlone.new.steps (kind_at c.args.self.now.control ForegroundAlone c.args.self.now.strategy (fresh_of c.args.self.now) (sym c.control.ensures ∙ c.in-ForegroundAlone.is)) c.front_step-in-ForegroundAlone.ensures.may_read
