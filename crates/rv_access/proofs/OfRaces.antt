@@ -6,8 +6,7 @@ use Rattle.std.specs.declared.alloc.Global.{Global}
 use Rattle.std.proofs.lemmas.Bool.{and_from, eqb-true}
 use Rattle.rv_value.specs.declared.record.IndexEntry.{IndexEntry}
 use Rattle.rv_judge.specs.declared.counting.Counts.{Counts}
-use Rattle.rv_judge.specs.declared.events.Control.{Control}
-use Rattle.rv_judge.specs.declared.events.Control.TheVariants.{Building, ForegroundAlone, BackgroundAlone, FinalList, FinalTable, Done}
+use Rattle.rv_judge.specs.declared.events.Control.TheVariants.{Done}
 use Rattle.rv_judge.specs.declared.events.Event.TheVariants.{Drop}
 use Rattle.rv_judge.specs.declared.events.Happening.{Happening}
 use Rattle.rv_judge.specs.declared.events.Happening.TheVariants.{Ruled, ScanEnded}
@@ -23,7 +22,7 @@ use Rattle.rv_judge.specs.Verdicts.{Ruling}
 use Rattle.rv_reader.specs.Shown.{Shown}
 use Rattle.rv_reader.specs.declared.step.Step.{Step}
 use Rattle.rv_value.specs.declared.record.Record.{Record}
-use Rattle.rv_reader.specs.declared.step.Step.TheVariants.{Row, Working, End}
+use Rattle.rv_reader.specs.declared.step.Step.TheVariants.{End}
 use Rattle.rv_jscan.specs.declared.piece.PieceId.{PieceId}
 use Rattle.rv_jscan.specs.declared.jscan.Given.{Given}
 use Rattle.rv_jscan.specs.declared.jscan.Given.TheVariants.{Accepted, Stale}
@@ -33,10 +32,10 @@ use Rattle.rv_choice.specs.declared.query.Query.{Query}
 use Rattle.rv_final.specs.Rest.{Steps}
 use Rattle.rv_retrieval.specs.Runs.{indexes_asked}
 use Rattle.rv_race.specs.Given.{Awaits, TakesLeaf, awaited, next_id, piece_read, turn_lane, turn_scan}
-use Rattle.rv_race.specs.Opened.{DoesAs, DoesStep, EndsIn, OnlyTakes, StepsAs as RaceSteps, ended_by}
+use Rattle.rv_race.specs.Opened.{DoesStep, EndsIn, OnlyTakes, StepsAs as RaceSteps}
 use Rattle.rv_race.specs.Raced.{Keeps as RaceKeeps, RaceFits, Raced, SameRace, rest}
 use Rattle.rv_final.specs.Shell.{scanning}
-use Rattle.rv_race.specs.Rulings.{GivesOn, HasNextTurn, Obeys, accepted, ended, index_at, listed, more, over, ruled, told_over}
+use Rattle.rv_race.specs.Rulings.{GivesOn, HasNextTurn, Obeys, accepted, facts_of, index_at, listed, more, over, ruled, told_over}
 use Rattle.rv_jscan.specs.Planned.{indexes_of}
 use Rattle.rv_race.specs.Runs.{Tells}
 use Rattle.rv_final.proofs.Takings.{unawaited_read}
@@ -97,30 +96,22 @@ wider t xs ys all a = by t.strategy a
 
 -- WHAT AN ACCEPTED PIECE LEAVES
 
--- what stays where a scan ends and where a judge rules
-record Turns (old new : Raced) : Type 0 where
-  plans : new.plans ≡ old.plans
-  number : new.number ≡ old.number
+-- the number of the next piece stays where a scan ends and where a judge rules
 
-over_turns : (happening : Bool → Happening) (old r : Raced) → Turns old r → Turns old (over (more r) (happening (more r)) r)
-over_turns happening old r t = over_as (Turns old) happening r (λ m. record { plans = t.plans; number = t.number }) (λ m. record { plans = t.plans; number = t.number })
+over_number : (happening : Bool → Happening) (r : Raced) → (over (more r) (happening (more r)) r).number ≡ r.number
+over_number happening r = over_as (λ (x : Raced). x.number ≡ r.number) happening r (λ m. refl) (λ m. refl)
 
-ruled_turns : (verdict : Verdict) (r : Raced) → Turns r (ruled verdict r)
-ruled_turns Continue r = record { plans = refl; number = refl }
-ruled_turns AbandonForeground r = record { plans = refl; number = refl }
-ruled_turns AbandonScan r = over_turns (λ b. Ruled AbandonScan b (is_some r.list)) r (told_over (Drop (index_at r (turn_scan r))) r) (record { plans = refl; number = refl })
-ruled_turns AbandonBackground r = record { plans = refl; number = refl }
+ruled_number : (verdict : Verdict) (r : Raced) → (ruled verdict r).number ≡ r.number
+ruled_number Continue r = refl
+ruled_number AbandonForeground r = refl
+ruled_number AbandonScan r = over_number (λ b. Ruled AbandonScan b (is_some r.list)) (told_over (Drop (index_at r (turn_scan r))) r)
+ruled_number AbandonBackground r = refl
 
-ended_turns : (keys : List ℕ) (r : Raced) → Turns r (ended (listed keys r))
-ended_turns keys r = over_turns (λ b. ScanEnded b true) r (listed keys r) (record { plans = refl; number = refl })
-
-obeyed_turns : (would : ℕ → Facts → Ruling) (state after : ℕ) (piece : Pieced) (next : Option IndexEntry) (old new : Raced) → Obeys would state after piece next old new → (new.plans ≡ old.plans) × (new.number ≡ one_more old.number)
-obeyed_turns would state after piece (Some cut) old new o =
-    let t = subst (Turns (accepted piece false old)) (sym o.0) (ruled_turns _ (accepted piece false old)) in
-    (t.plans, t.number)
-obeyed_turns would state after piece None old new o =
-    let t = subst (Turns (accepted piece true old)) (sym o.0.ends) (ended_turns o.0.keys (accepted piece true old)) in
-    (t.plans, t.number)
+obeyed_number : (would : ℕ → Facts → Ruling) (state after : ℕ) (piece : Pieced) (next : Option IndexEntry) (old new : Raced) → Obeys would state after piece next old new → new.number ≡ one_more old.number
+obeyed_number would state after piece (Some cut) old new o =
+    let mid = accepted piece false old in
+    ap (λ (r : Raced). r.number) o.0 ∙ ruled_number (would state (facts_of mid)).verdict mid
+obeyed_number would state after piece None old new o = ap (λ (r : Raced). r.number) o.0.ends ∙ over_number (λ b. ScanEnded b true) (listed o.0.keys (accepted piece true old))
 
 -- A STEP
 
@@ -128,35 +119,19 @@ pub gives_step : {E : Type 0} (r : Result (Step Record) E) (b : Box RacedQuery G
 gives_step (Ok s) b old new shown o does = subst (λ (order : List ℕ). Steps old.query.need order s (rest old.race shown) (rest new shown)) (sym o) (does old.query.need)
 gives_step (Err x) b old new shown o does = tt
 
-pub does_as : {E : Type 0} (r : Result (Step Record) E) (would : ℕ → Facts → Ruling) (state after : ℕ) (shown : Shown) (c d : Counts) (old : RacedQuery) (new : Raced) → IfOk r (λ s. RaceSteps would state after shown c d s old.race new) → IfOk r (λ s. RacedSteps would state after shown c d s old (record old { race = new }))
-does_as (Ok s) would state after shown c d old new steps = record { same = refl; steps = steps }
-does_as (Err x) would state after shown c d old new steps = tt
+pub does_as : {E : Type 0} (r : Result (Step Record) E) (would : ℕ → Facts → Ruling) (state after : ℕ) (shown : Shown) (c d : Counts) (old : RacedQuery) (new : Raced) → SameRace old.race new → IfOk r (λ s. RaceSteps would state after shown c d s old.race new) → IfOk r (λ s. RacedSteps would state after shown c d s old (record old { race = new }))
+does_as (Ok s) would state after shown c d old new kept steps = record { same = refl; steps = steps; kept = kept }
+does_as (Err x) would state after shown c d old new kept steps = tt
 
 -- an end leads to the last control
 pub ends_done : {E : Type 0} (r : Result (Step Record) E) (new : Raced) → IfOk r (EndsIn new) → r ≡ Ok End → new.control ≡ Done
 ends_done r new ends is = subst (λ x. IfOk x (EndsIn new)) is ends
 
--- the plans stay
-ended_plans : (s : Step Record) (old r : Raced) → r.plans ≡ old.plans → (ended_by s r).plans ≡ old.plans
-ended_plans (Row x) old r e = e
-ended_plans Working old r e = e
-ended_plans End old r e = e
-
-does_plans : (now : Control) (would : ℕ → Facts → Ruling) (state after : ℕ) (shown : Shown) (c d : Counts) (s : Step Record) (old new : Raced) → DoesAs now would state after shown c d s old new → new.plans ≡ old.plans
-does_plans Building would state after shown c d s old new does = absurd does
-does_plans ForegroundAlone would state after shown c d s old new does = absurd does
-does_plans BackgroundAlone would state after shown c d s old new does =
-    let one = does.1 in
-    (obeyed_turns would state after one.piece (held_next (turn_lane one.taken).held) one.taken new one.obeys).0 ∙ ap (λ (r : Raced). r.plans) one.leaves.same
-does_plans FinalList would state after shown c d s old new does = ap (λ (r : Raced). r.plans) does.2 ∙ ended_plans s old (record old { at = new.at }) refl
-does_plans FinalTable would state after shown c d s old new does = ap (λ (r : Raced). r.plans) does.2 ∙ ended_plans s old (record old { last = new.last }) refl
-does_plans Done would state after shown c d s old new does = ap (λ (r : Raced). r.plans) does.3
-
 pub steps_plans : (would : ℕ → Facts → Ruling) (state after : ℕ) (shown : Shown) (c d : Counts) (fg : Step Record) (old new : Box RacedQuery Global) → RacedSteps would state after shown c d fg old.value new.value → SamePlans (Racing old) (Racing new)
 steps_plans would state after shown c d fg old new steps = record {
   query = ap (λ (r : RacedQuery). r.query) steps.same;
   strategy = refl;
-  plans = ap (λ (r : Raced). r.plans) steps.steps.counts ∙ does_plans old.value.race.control would state after shown c d fg old.value.race steps.steps.stepped steps.steps.does;
+  plans = steps.kept.plans;
 }
 
 -- where it only took, the control, the scans and the events stay
@@ -191,7 +166,7 @@ leaf_pieces b old new leaves same = record { awaited = same; number = ap (λ (r 
 -- A GIVE
 
 pub given_number : (would : ℕ → Facts → Ruling) (state after : ℕ) (piece : Pieced) (g : Given) (old new : Raced) → GivesOn would state after piece g old new → CountsPiece g old.number new.number
-given_number would state after piece Accepted old new gives = (obeyed_turns would state after piece (held_next (turn_lane old).held) old new gives).1
+given_number would state after piece Accepted old new gives = obeyed_number would state after piece (held_next (turn_lane old).held) old new gives
 given_number would state after piece (Stale asked now) old new gives = ap (λ (r : Raced). r.number) gives.0
 
 -- the awaited piece has the awaited id

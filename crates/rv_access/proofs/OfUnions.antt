@@ -4,8 +4,7 @@ use Rattle.std.specs.List.{list_all}
 use Rattle.std.specs.declared.alloc.Global.{Global}
 use Rattle.rv_value.specs.declared.record.IndexEntry.{IndexEntry}
 use Rattle.rv_judge.specs.declared.counting.Counts.{Counts}
-use Rattle.rv_judge.specs.declared.events.Control.{Control}
-use Rattle.rv_judge.specs.declared.events.Control.TheVariants.{Building, ForegroundAlone, BackgroundAlone, FinalList, FinalTable, Done}
+use Rattle.rv_judge.specs.declared.events.Control.TheVariants.{Done}
 use Rattle.rv_judge.specs.declared.judging.Facts.{Facts}
 use Rattle.rv_judge.specs.declared.judging.Verdict.{Verdict}
 use Rattle.rv_judge.specs.declared.judging.Verdict.TheVariants.{Continue, AbandonScan, AbandonForeground, AbandonBackground}
@@ -15,7 +14,7 @@ use Rattle.rv_judge.specs.Verdicts.{Ruling}
 use Rattle.rv_reader.specs.Shown.{Shown}
 use Rattle.rv_reader.specs.declared.step.Step.{Step}
 use Rattle.rv_value.specs.declared.record.Record.{Record}
-use Rattle.rv_reader.specs.declared.step.Step.TheVariants.{Row, Working, End}
+use Rattle.rv_reader.specs.declared.step.Step.TheVariants.{End}
 use Rattle.rv_jscan.specs.declared.piece.PieceId.{PieceId}
 use Rattle.rv_jscan.specs.declared.jscan.Given.{Given}
 use Rattle.rv_jscan.specs.declared.jscan.Given.TheVariants.{Accepted, Stale}
@@ -25,8 +24,8 @@ use Rattle.rv_choice.specs.declared.query.Query.{Query}
 use Rattle.rv_final.specs.Rest.{Steps}
 use Rattle.rv_retrieval.specs.Runs.{indexes_asked}
 use Rattle.rv_union.specs.Given.{Awaits, TakesLeaf, awaited, next_id, piece_read}
-use Rattle.rv_union.specs.Opened.{DoesAs, DoesStep, EndsIn, OnlyTakes, StepsAs as UnionSteps, ended_by}
-use Rattle.rv_union.specs.Rulings.{GivesOn, Obeys, accepted, joined, next_member, over, ruled}
+use Rattle.rv_union.specs.Opened.{DoesStep, EndsIn, OnlyTakes, StepsAs as UnionSteps}
+use Rattle.rv_union.specs.Rulings.{GivesOn, Obeys, accepted, facts_of, joined, next_member, over, ruled}
 use Rattle.rv_jscan.specs.Planned.{indexes_of}
 use Rattle.rv_union.specs.Runs.{Tells}
 use Rattle.rv_union.specs.Unioned.{Keeps as UnionKeeps, SameUnion, UnionFits, Unioned, rest}
@@ -56,27 +55,22 @@ tells_on old new same tells t = record {
 
 -- WHAT AN ACCEPTED PIECE LEAVES
 
--- what stays where a member ends and where a judge rules
-record Turns (old new : Unioned) : Type 0 where
-  plans : new.plans ≡ old.plans
-  number : new.number ≡ old.number
+-- the number of the next piece stays where a member ends and where a judge rules
 
-over_turns : (old u : Unioned) → Turns old u → Turns old (over u)
-over_turns old u t = over_as (Turns old) u (λ l. subst (Turns old) (sym (told_parts (next_member u))) (record { plans = t.plans; number = t.number })) (λ l. record { plans = t.plans; number = t.number })
+over_number : (u : Unioned) → (over u).number ≡ u.number
+over_number u = over_as (λ (x : Unioned). x.number ≡ u.number) u (λ l. ap (λ (x : Unioned). x.number) (told_parts (next_member u))) (λ l. refl)
 
-ruled_turns : (verdict : Verdict) (u : Unioned) → Turns u (ruled verdict u)
-ruled_turns Continue u = record { plans = refl; number = refl }
-ruled_turns AbandonScan u = record { plans = refl; number = refl }
-ruled_turns AbandonForeground u = record { plans = refl; number = refl }
-ruled_turns AbandonBackground u = record { plans = refl; number = refl }
+ruled_number : (verdict : Verdict) (u : Unioned) → (ruled verdict u).number ≡ u.number
+ruled_number Continue u = refl
+ruled_number AbandonScan u = refl
+ruled_number AbandonForeground u = refl
+ruled_number AbandonBackground u = refl
 
-obeyed_turns : (would : ℕ → Facts → Ruling) (state after : ℕ) (piece : Pieced) (next : Option IndexEntry) (old new : Unioned) → Obeys would state after piece next old new → (new.plans ≡ old.plans) × (new.number ≡ one_more old.number)
-obeyed_turns would state after piece (Some cut) old new o =
-    let t = subst (Turns (accepted piece false old)) (sym o.0) (ruled_turns _ (accepted piece false old)) in
-    (t.plans, t.number)
-obeyed_turns would state after piece None old new o =
-    let t = subst (Turns (accepted piece true old)) (sym o.0.ends) (over_turns (accepted piece true old) (joined o.0.keys (accepted piece true old)) (record { plans = refl; number = refl })) in
-    (t.plans, t.number)
+obeyed_number : (would : ℕ → Facts → Ruling) (state after : ℕ) (piece : Pieced) (next : Option IndexEntry) (old new : Unioned) → Obeys would state after piece next old new → new.number ≡ one_more old.number
+obeyed_number would state after piece (Some cut) old new o =
+    let mid = accepted piece false old in
+    ap (λ (u : Unioned). u.number) o.0 ∙ ruled_number (would state (facts_of mid)).verdict mid
+obeyed_number would state after piece None old new o = ap (λ (u : Unioned). u.number) o.0.ends ∙ over_number (joined o.0.keys (accepted piece true old))
 
 -- A STEP
 
@@ -84,35 +78,19 @@ pub gives_step : {E : Type 0} (r : Result (Step Record) E) (b : Box UnitedQuery 
 gives_step (Ok s) b old new shown o does = subst (λ (order : List ℕ). Steps old.query.need order s (rest old.union shown) (rest new shown)) (sym o) (does old.query.need)
 gives_step (Err x) b old new shown o does = tt
 
-pub does_as : {E : Type 0} (r : Result (Step Record) E) (would : ℕ → Facts → Ruling) (state after : ℕ) (shown : Shown) (c d : Counts) (old : UnitedQuery) (new : Unioned) → IfOk r (λ s. UnionSteps would state after shown c d s old.union new) → IfOk r (λ s. UnitedSteps would state after shown c d s old (record old { union = new }))
-does_as (Ok s) would state after shown c d old new steps = record { same = refl; steps = steps }
-does_as (Err x) would state after shown c d old new steps = tt
+pub does_as : {E : Type 0} (r : Result (Step Record) E) (would : ℕ → Facts → Ruling) (state after : ℕ) (shown : Shown) (c d : Counts) (old : UnitedQuery) (new : Unioned) → SameUnion old.union new → IfOk r (λ s. UnionSteps would state after shown c d s old.union new) → IfOk r (λ s. UnitedSteps would state after shown c d s old (record old { union = new }))
+does_as (Ok s) would state after shown c d old new kept steps = record { same = refl; steps = steps; kept = kept }
+does_as (Err x) would state after shown c d old new kept steps = tt
 
 -- an end leads to the last control
 pub ends_done : {E : Type 0} (r : Result (Step Record) E) (new : Unioned) → IfOk r (EndsIn new) → r ≡ Ok End → new.control ≡ Done
 ends_done r new ends is = subst (λ x. IfOk x (EndsIn new)) is ends
 
--- the plans stay
-ended_plans : (s : Step Record) (old u : Unioned) → u.plans ≡ old.plans → (ended_by s u).plans ≡ old.plans
-ended_plans (Row x) old u e = e
-ended_plans Working old u e = e
-ended_plans End old u e = e
-
-does_plans : (now : Control) (would : ℕ → Facts → Ruling) (state after : ℕ) (shown : Shown) (c d : Counts) (s : Step Record) (old new : Unioned) → DoesAs now would state after shown c d s old new → new.plans ≡ old.plans
-does_plans Building would state after shown c d s old new does = absurd does
-does_plans ForegroundAlone would state after shown c d s old new does = absurd does
-does_plans BackgroundAlone would state after shown c d s old new does =
-    let one = does.1 in
-    (obeyed_turns would state after one.piece (held_next one.taken.lane.held) one.taken new one.obeys).0 ∙ ap (λ (u : Unioned). u.plans) one.leaves.same
-does_plans FinalList would state after shown c d s old new does = ap (λ (u : Unioned). u.plans) does.2 ∙ ended_plans s old (record old { at = new.at }) refl
-does_plans FinalTable would state after shown c d s old new does = ap (λ (u : Unioned). u.plans) does.2 ∙ ended_plans s old (record old { last = new.last }) refl
-does_plans Done would state after shown c d s old new does = ap (λ (u : Unioned). u.plans) does.3
-
 pub steps_plans : (would : ℕ → Facts → Ruling) (state after : ℕ) (shown : Shown) (c d : Counts) (fg : Step Record) (old new : Box UnitedQuery Global) → UnitedSteps would state after shown c d fg old.value new.value → SamePlans (Uniting old) (Uniting new)
 steps_plans would state after shown c d fg old new steps = record {
   query = ap (λ (u : UnitedQuery). u.query) steps.same;
   strategy = refl;
-  plans = ap (λ (u : Unioned). u.plans) steps.steps.counts ∙ does_plans old.value.union.control would state after shown c d fg old.value.union steps.steps.stepped steps.steps.does;
+  plans = steps.kept.plans;
 }
 
 -- where it only took, the control, the members, the keys and the events stay
@@ -147,7 +125,7 @@ leaf_pieces b old new leaves same = record { awaited = same; number = ap (λ (u 
 -- A GIVE
 
 pub given_number : (would : ℕ → Facts → Ruling) (state after : ℕ) (piece : Pieced) (g : Given) (old new : Unioned) → GivesOn would state after piece g old new → CountsPiece g old.number new.number
-given_number would state after piece Accepted old new gives = (obeyed_turns would state after piece (held_next old.lane.held) old new gives).1
+given_number would state after piece Accepted old new gives = obeyed_number would state after piece (held_next old.lane.held) old new gives
 given_number would state after piece (Stale asked now) old new gives = ap (λ (u : Unioned). u.number) gives.0
 
 -- the awaited piece has the awaited id

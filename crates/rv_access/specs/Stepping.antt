@@ -11,7 +11,9 @@ use Rattle.rv_retrieval.specs.Runs.{SameCourse as RetrievalCourse}
 use Rattle.rv_retrieval.specs.Stepping.{MayReadIts as RetrievalReads, OnlyTakes as RetrievalOnly, StepsAs as RetrievalSteps}
 use Rattle.rv_race.specs.Given.{turn_scan}
 use Rattle.rv_race.specs.Opened.{MayRead as RaceReads, OnlyTakes as RaceOnly, StepsAs as RaceSteps}
+use Rattle.rv_race.specs.Raced.{SameRace}
 use Rattle.rv_union.specs.Opened.{MayRead as UnionReads, OnlyTakes as UnionOnly, StepsAs as UnionSteps}
+use Rattle.rv_union.specs.Unioned.{SameUnion}
 use Rattle.rv_access.specs.declared.access.Access.{Access}
 use Rattle.rv_access.specs.declared.access.Access.TheVariants.{Competing, Racing, Uniting}
 use Rattle.rv_access.specs.declared.racing.RacedQuery.{RacedQuery}
@@ -24,17 +26,19 @@ abbrev pub GivesStep : Access → Access → Shown → Step Record → Type 0
 GivesStep old new shown step =
     Steps (query_of old).need (query_of old).order step (rest old shown) (rest new shown)
 
--- a step of a race
+-- a step of a race, which keeps what is asked, the planned scans and the names of the pieces
 pub record RacedSteps (would : ℕ → Facts → Ruling) (state after : ℕ) (shown : Shown) (c d : Counts) (fg : Step Record)
     (old new : RacedQuery) : Type 0 where
   pub same : new ≡ record old { race = new.race }
   pub steps : RaceSteps would state after shown c d fg old.race new.race
+  pub kept : SameRace old.race new.race
 
--- a step of a union
+-- a step of a union, likewise
 pub record UnitedSteps (would : ℕ → Facts → Ruling) (state after : ℕ) (shown : Shown) (c d : Counts) (fg : Step Record)
     (old new : UnitedQuery) : Type 0 where
   pub same : new ≡ record old { union = new.union }
   pub steps : UnionSteps would state after shown c d fg old.union new.union
+  pub kept : SameUnion old.union new.union
 
 -- WHAT A STEP DOES AND READS, and that it is then counted
 abbrev pub StepsAs : (ℕ → Facts → Ruling) → ℕ → ℕ → Shown → Counts → Counts → Step Record → Access → Access → Type 0

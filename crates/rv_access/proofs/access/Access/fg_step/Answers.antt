@@ -104,7 +104,7 @@ pub returns-in-Racing-clause-err : goal.returns-in-Racing-clause-err
 returns-in-Racing-clause-err g c = rw (has_race c.in-Racing.is c.deref_mut-in-Racing.ensures.value) c.step.ensures.err
 
 pub returns-in-Racing-clause-does : goal.returns-in-Racing-clause-does
-returns-in-Racing-clause-does g c = rw (has_race c.in-Racing.is c.deref_mut-in-Racing.ensures.value) (λ t. does_as c.step.result _ _ _ (g.R.Reader.shown c.args.reader.now) c.args.steps.now c.step.new.steps c.deref_mut-in-Racing.result.now c.step.new.self c.step.ensures.does)
+returns-in-Racing-clause-does g c = rw (has_race c.in-Racing.is c.deref_mut-in-Racing.ensures.value) (λ t. does_as c.step.result _ _ _ (g.R.Reader.shown c.args.reader.now) c.args.steps.now c.step.new.steps c.deref_mut-in-Racing.result.now c.step.new.self c.step.ensures.same c.step.ensures.does)
 
 pub returns-in-Racing-clause-quiet : goal.returns-in-Racing-clause-quiet
 returns-in-Racing-clause-quiet g c = c.step.ensures.quiet
@@ -173,7 +173,7 @@ pub returns-in-Uniting-clause-err : goal.returns-in-Uniting-clause-err
 returns-in-Uniting-clause-err g c = rw (has_union c.in-Uniting.is c.deref_mut-in-Uniting.ensures.value) c.step-in-Uniting.ensures.err
 
 pub returns-in-Uniting-clause-does : goal.returns-in-Uniting-clause-does
-returns-in-Uniting-clause-does g c = rw (has_union c.in-Uniting.is c.deref_mut-in-Uniting.ensures.value) (λ t. union_does_as c.step-in-Uniting.result _ _ _ (g.R.Reader.shown c.args.reader.now) c.args.steps.now c.step-in-Uniting.new.steps c.deref_mut-in-Uniting.result.now c.step-in-Uniting.new.self c.step-in-Uniting.ensures.does)
+returns-in-Uniting-clause-does g c = rw (has_union c.in-Uniting.is c.deref_mut-in-Uniting.ensures.value) (λ t. union_does_as c.step-in-Uniting.result _ _ _ (g.R.Reader.shown c.args.reader.now) c.args.steps.now c.step-in-Uniting.new.steps c.deref_mut-in-Uniting.result.now c.step-in-Uniting.new.self c.step-in-Uniting.ensures.same c.step-in-Uniting.ensures.does)
 
 pub returns-in-Uniting-clause-quiet : goal.returns-in-Uniting-clause-quiet
 returns-in-Uniting-clause-quiet g c = c.step-in-Uniting.ensures.quiet
