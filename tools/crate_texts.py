@@ -32,13 +32,22 @@ def crates(top: Path) -> list[str]:
     return [line.split(":")[0].split()[0] for line in lines if ":" in line]
 
 
-def texts(top: Path) -> list[str]:
-    """The files of Rattle and of antt, but for what is built."""
-    found = []
+def files(top: Path) -> Iterator[str]:
+    """The files of the repository, as paths from its top: those that git tracks or does not ignore, or outside a checkout all but what
+    is built."""
+    if (top / ".git").exists() and shutil.which("git"):
+        words = ["git", "ls-files", "-z", "--cached", "--others", "--exclude-standard"]
+        told = subprocess.run(words, cwd=top, capture_output=True, text=True, check=True).stdout
+        yield from (path for path in told.split("\0") if (top / path).is_file())
+        return
     for folder, folders, names in os.walk(top):
-        folders[:] = sorted(it for it in folders if it not in ("out", ".git"))
-        found += [os.path.relpath(f"{folder}/{name}", top) for name in sorted(names) if Path(name).suffix in READ]
-    return found
+        folders[:] = (it for it in folders if it not in ("out", ".git"))
+        yield from (os.path.relpath(f"{folder}/{name}", top) for name in names)
+
+
+def texts(top: Path) -> list[str]:
+    """The files of Rattle and of antt."""
+    return sorted(path for path in files(top) if Path(path).suffix in READ)
 
 
 def is_read(path: str, names: list[str]) -> bool:

@@ -1,5 +1,6 @@
 """What the gate refuses of the crates' texts before it proves anything, over a small repository and a formatter that only plays its part."""
 import shutil
+import subprocess
 import tempfile
 import unittest
 from pathlib import Path
@@ -51,6 +52,15 @@ class CrateTexts(unittest.TestCase):
             path = self.write(name, "")
             self.assertEqual(self.found(), [f"{name}: no check reads it"])
             path.unlink()
+
+    @unittest.skipUnless(shutil.which("git"), "there is no git on the path")
+    def test_what_git_ignores_is_passed_over(self):
+        subprocess.run(["git", "init", "-q", self.top], check=True)
+        self.write(".gitignore", "out/\nkept/\n")
+        self.write("kept/Low.antt", "crooked\n")
+        self.assertEqual(crate_texts.faults(self.top, str(self.formatter)), (4, []))
+        self.write("more/Low.antt", "has : it\n")
+        self.assertEqual(self.found(), ["more/Low.antt: no check reads it"])
 
     def test_edit_that_cannot_be_tried(self):
         for text, why in (
