@@ -21,3 +21,4 @@ pub mod Courses
 pub mod Going
 pub mod Lowering
 pub mod Orders
+pub mod Staged

@@ -7,18 +7,18 @@ ghost use Rattle.rv_access.specs.Accesses.{AccessFits, SamePlans, Settled, fetch
 ghost use Rattle.rv_access.specs.Stepping.{SameCourse};
 ghost use Rattle.rv_access.specs.Opened.{is_race};
 ghost use Rattle.rv_access.specs.Given.{CountsPiece, GivesOn, TakesPiece, awaited, piece_read};
-ghost use Rattle.rv_judge.specs.Tracing.{CountsAll, SameCounts};
+ghost use Rattle.rv_judge.specs.Tracing.{CountsAll, CountsRise, SameCounts};
 ghost use Rattle.rv_judge.specs.Counting.{reads};
 ghost use Rattle.rv_retrieval.specs.Effort.{GiveSpends};
 ghost use Rattle.rv_retrieval.specs.Short.{OnlyLeaves, has_short};
-ghost use Rattle.rv_join.specs.Alone.{Fetches, GatherSpends, IsAlone, PlanAsks, PlanSpends, Spends, StepsOnce, TakesOnce, level_effort, plan_effort, plan_life};
+ghost use Rattle.rv_join.specs.Alone.{Fetches, FewFetches, GatherSpends, IsAlone, PlanAsks, PlanSpends, Spends, StepsOnce, TakesOnce, level_effort, plan_effort, plan_life};
 ghost use Rattle.rv_join.specs.Asking.{CanPlan, CanRun, IsAsked, item_at, lives_of};
 ghost use Rattle.rv_join.specs.Levels.{StackFits, first_of, table_rows};
 ghost use Rattle.rv_join.specs.Moves.{Kept, Rises, StackStays};
 ghost use Rattle.rv_model.specs.Offering.{offers_over};
 ghost use Rattle.rv_join.specs.Work.{row_cost};
 ghost use Rattle.rv_join.specs.Pieces.{GivesPiece, StackAwaits, level_at, plan_awaited, plan_pieces, stack_builds, waited, waiting, waits};
-ghost use Rattle.rv_join.specs.Plans.{AreReads, Gathers, Gives, HoldsGood, LeadsWith, PlanFits, PlanKept, PlanMoves, PlanStays, RisesAlone, Sorts, numbers_of, plan_rest, plan_trace, plan_work, reads_with, stage_of};
+ghost use Rattle.rv_join.specs.Plans.{AreReads, Gathers, Gives, LeadsWith, PlanFits, PlanKept, PlanMoves, PlanStays, Sorts, numbers_of, plan_rest, plan_trace, plan_work, reads_with, stage_of};
 
 use crate::gather::{Gathered, Stage};
 use crate::places::{Asked, ask, by_index};
@@ -168,7 +168,7 @@ impl Plan {
 /// Changes of fields.
 impl Plan {
     /// Whether offers come as they are found, are being gathered, or are given in their order.
-    pub(crate) fn stage(&self) -> Stage
+    fn stage(&self) -> Stage
         ensures { result ≡ self.now.stage }
     {
         self.stage
@@ -188,33 +188,39 @@ impl Plan {
         self.reads.records = self.reads.records.saturating_add(records);
     }
 
-    /// A step of the stage in which the plan is. Offers are given as they are found by a step of the nested loops.
-    pub(crate) fn stage_step<R: Reader>(
+    /// Gives a combination of the rest, works on, or ends.
+    ///
+    /// `Row` takes one combination out of the rest, none of which has lesser order values. `End` comes only where the
+    /// rest is empty. `Working` leaves the rest; so does `NoMemory`. Offers are given as they are found, or by the stage.
+    #[tactic(auto, using(crate::proofs::Accounting::plan_rises, crate::proofs::Accounting::fits_counted))]
+    pub fn step<R: Reader>(
         &mut self,
         reader: &R,
         judge: &mut Box<dyn Judge>,
         steps: &mut Steps<R::Ledger>,
     ) -> Result<Step<Offer>, NoMemory>
-        requires fits { HoldsGood (R.shown reader.now) self.old }
-        ensures step { IfOk result (λ m. PlanMoves (R.shown reader.now) m self.old self.new) }
-        ensures holds { HoldsGood (R.shown reader.now) self.new }
-        ensures alone { RisesAlone self.old self.new steps.old steps.new }
+        requires fits { PlanFits (R.shown reader.now) self.old }
+        ensures counts { CountsRise (plan_trace self.old) (plan_trace self.new) steps.old steps.new }
         ensures stays { would judge.new ≡ would judge.old }
         ensures asks { PlanAsks (would judge.old) (state judge.old) (state judge.new) (R.shown reader.now) steps.old steps.new self.old self.new }
         ensures once { IsAlone self.old → StepsOnce (would judge.old) (state judge.old) (state judge.new) (R.shown reader.now) steps.old steps.new self.old.stack.at self.new.stack.at }
         ensures spends { IsAlone self.old → IfOk result (λ m. PlanSpends m steps.old steps.new (plan_effort (R.shown reader.now) self.old) (plan_effort (R.shown reader.now) self.new)) }
-        ensures fetches { IsAlone self.old → OnOk result (Fetches (R.shown reader.now) steps.old steps.new self.old.stack.at.here self.new.stack.at.here) }
-        ensures plans { SamePlans (first_of self.old.stack).here (first_of self.new.stack).here }
-        ensures reads { self.new.reads ≡ self.old.reads }
+        ensures few { IsAlone self.old → OnOk result (FewFetches 0 (R.shown reader.now) self.old self.new) }
+        ensures lost { IsAlone self.old → FewFetches 1 (R.shown reader.now) self.old self.new }
+        ensures fits { PlanFits (R.shown reader.now) self.new }
+        ensures step { IfOk result (λ m. PlanMoves (R.shown reader.now) m self.old self.new) }
         ensures err { OnErr result (PlanKept (R.shown reader.now) self.old self.new) }
     {
-        match self.stage() {
+        let before = steps.counts();
+        let stepped = match self.stage() {
             Stage::AsFound => self
                 .stack
                 .advance(self.alloc, &self.asked, reader, judge, steps),
             Stage::Gathering => self.gather_step(reader, judge, steps),
             Stage::Giving => self.give_next(),
-        }
+        };
+        self.count(before, steps.counts());
+        stepped
     }
 
     /// A step of the nested loops, whose combination is put to those gathered.

@@ -1,10 +1,10 @@
-//! The calls on a plan whose reads are counted: steps, and taking a piece.
+//! A step of a plan that gathers all offers first, and taking a piece, whose reads are counted.
 ghost use Rattle.std.specs.Prelude.{◌≡◌, None, Ok, IfOk, OnErr, OnOk};
 ghost use Rattle.rv_access.specs.Accesses.{SamePlans, held_of};
 ghost use Rattle.rv_access.specs.Stepping.{SameCourse};
 ghost use Rattle.rv_access.specs.Given.{TakesPiece, piece_read};
 ghost use Rattle.rv_judge.specs.Tracing.{CountsRise};
-ghost use Rattle.rv_join.specs.Alone.{Fetches, FewFetches, IsAlone, PlanAsks, PlanSpends, Spends, StepsOnce, TakesOnce, plan_effort};
+ghost use Rattle.rv_join.specs.Alone.{Fetches, IsAlone, PlanAsks, PlanSpends, Spends, StepsOnce, TakesOnce, plan_effort};
 ghost use Rattle.rv_join.specs.Levels.{first_of};
 ghost use Rattle.rv_join.specs.Pieces.{TakesAwaited, plan_awaited, plan_pieces, waited, waiting, waits};
 ghost use Rattle.rv_join.specs.Plans.{HoldsGood, PlanFits, PlanKept, PlanMoves, PlanStays, RisesAlone, plan_trace};
@@ -46,35 +46,6 @@ impl Plan {
         } else {
             Ok(Step::Working)
         }
-    }
-
-    /// Gives a combination of the rest, works on, or ends.
-    ///
-    /// `Row` takes one combination out of the rest, none of which has lesser order values. `End` comes only where the
-    /// rest is empty. `Working` leaves the rest; so does `NoMemory`.
-    #[tactic(auto, using(crate::proofs::Accounting::plan_rises, crate::proofs::Accounting::fits_counted))]
-    pub fn step<R: Reader>(
-        &mut self,
-        reader: &R,
-        judge: &mut Box<dyn Judge>,
-        steps: &mut Steps<R::Ledger>,
-    ) -> Result<Step<Offer>, NoMemory>
-        requires fits { PlanFits (R.shown reader.now) self.old }
-        ensures counts { CountsRise (plan_trace self.old) (plan_trace self.new) steps.old steps.new }
-        ensures stays { would judge.new ≡ would judge.old }
-        ensures asks { PlanAsks (would judge.old) (state judge.old) (state judge.new) (R.shown reader.now) steps.old steps.new self.old self.new }
-        ensures once { IsAlone self.old → StepsOnce (would judge.old) (state judge.old) (state judge.new) (R.shown reader.now) steps.old steps.new self.old.stack.at self.new.stack.at }
-        ensures spends { IsAlone self.old → IfOk result (λ m. PlanSpends m steps.old steps.new (plan_effort (R.shown reader.now) self.old) (plan_effort (R.shown reader.now) self.new)) }
-        ensures few { IsAlone self.old → OnOk result (FewFetches 0 (R.shown reader.now) self.old self.new) }
-        ensures lost { IsAlone self.old → FewFetches 1 (R.shown reader.now) self.old self.new }
-        ensures fits { PlanFits (R.shown reader.now) self.new }
-        ensures step { IfOk result (λ m. PlanMoves (R.shown reader.now) m self.old self.new) }
-        ensures err { OnErr result (PlanKept (R.shown reader.now) self.old self.new) }
-    {
-        let before = steps.counts();
-        let stepped = self.stage_step(reader, judge, steps);
-        self.count(before, steps.counts());
-        stepped
     }
 
     /// Takes the awaited piece of the first retrieval in FROM order that awaits one. `Nothing` exactly where none does, and
