@@ -15,6 +15,7 @@ use Rattle.rv_cursor.specs.Moves.Move.{Front, Lost, Take, Give}
 use Rattle.rv_core.proofs.Shorts.{call_moves, still_moves, take_moves}
 use Rattle.rv_bounded.specs.CoreCalls.{CallIsSpent, GiveIsGiven, MovesLoseFew, StillIsSpent, TakeIsSpent, steps_and_takes}
 use Rattle.rv_bounded.specs.Plans.{lost_call, lost_leaf}
+use Rattle.rv_bounded.proofs.Sums.{at_most}
 
 -- ONE READ AT MOST
 
@@ -30,9 +31,6 @@ few_leaves false = omega arith
 few_leaf : (a : Access) → lost_leaf a ≤ 1
 few_leaf a = few_leaves (is_some (awaited a) && not (is_some (held_of a)))
 
-same_most : (n : ℕ) → n ≤ n
-same_most n = omega arith
-
 no_more : (n : ℕ) → n + 0 ≤ n
 no_more n = omega arith
 
@@ -41,9 +39,9 @@ none_before n = omega arith
 
 pub moves_lose_few : MovesLoseFew
 moves_lose_few [] would shown old new made = tt
-moves_lose_few (Front ∷ moves) would shown old new made = (steps_and_takes moves, 1, moves_lose_few moves would shown old made.0 made.1, (λ one. few_lost (made.2.1.once one).calls), same_most (steps_and_takes moves + 1))
-moves_lose_few (Lost ∷ moves) would shown old new made = (steps_and_takes moves, 1, moves_lose_few moves would shown old made.0 made.1, (λ one. few_lost (made.2.once one).calls), same_most (steps_and_takes moves + 1))
-moves_lose_few (Take ∷ moves) would shown old new made = (steps_and_takes moves, 1, moves_lose_few moves would shown old made.0 made.1, few_leaf new.plan.stack.at.here, same_most (steps_and_takes moves + 1))
+moves_lose_few (Front ∷ moves) would shown old new made = (steps_and_takes moves, 1, moves_lose_few moves would shown old made.0 made.1, (λ one. few_lost (made.2.1.once one).calls), at_most (steps_and_takes moves + 1))
+moves_lose_few (Lost ∷ moves) would shown old new made = (steps_and_takes moves, 1, moves_lose_few moves would shown old made.0 made.1, (λ one. few_lost (made.2.once one).calls), at_most (steps_and_takes moves + 1))
+moves_lose_few (Take ∷ moves) would shown old new made = (steps_and_takes moves, 1, moves_lose_few moves would shown old made.0 made.1, few_leaf new.plan.stack.at.here, at_most (steps_and_takes moves + 1))
 moves_lose_few (Give ∷ moves) would shown old new made = (steps_and_takes moves, 0, moves_lose_few moves would shown old made.0 made.1, tt, no_more (steps_and_takes moves))
 
 -- THE CALLS
@@ -96,7 +94,7 @@ take_spent would state shown place before after old new tries rule =
         sees = refl;
       };
       bounded = rule;
-      loses = (0, lost, tt, same_most lost, none_before lost);
+      loses = (0, lost, tt, at_most lost, none_before lost);
     }
 
 pub give_given : GiveIsGiven

@@ -1,6 +1,7 @@
 -- All that a race reads, from its opening on.
 use Rattle.std.proofs.Common.{◌≡◌, ℕ, ◌+◌, ◌-◌, ◌*◌, ◌^◌, ◌<◌, ◌≤◌, List, [], ◌∷◌, length, Bool, true, false, Option, Some, None, IfSome, IsPermutation, is_some, refl, ap, sym, ◌∙◌, subst, arith, if◌then◌else◌}
 use Rattle.std.proofs.lemmas.List.{length-drop}
+use Rattle.rv_value.proofs.Tests.{no_way}
 use Rattle.rv_value.specs.declared.record.IndexEntry.{IndexEntry}
 use Rattle.rv_judge.specs.declared.counting.Counts.{Counts}
 use Rattle.rv_judge.specs.declared.events.Control.{Control}
@@ -43,10 +44,10 @@ use Rattle.rv_bounded.specs.Calls.Call.{Step, StepLost, Take, TakeLost, Give}
 use Rattle.rv_bounded.specs.RaceReads.{RaceAllOver, RaceOver, RacesAreBounded}
 use Rattle.rv_bounded.specs.Races.{RaceDoesAll, RaceDoesCall, RaceGives, RaceSteps, RaceStepsLost, RaceTakes}
 use Rattle.rv_bounded.proofs.Ahead.{greatest}
-use Rattle.rv_bounded.proofs.RaceLaws.{Leafs, Placed, RaceSpends, accepted_room, all_dropped, below_room, give_spends, idle_spends, leafs_placed, least_less, not_racing, only_leafs, opened_most, opened_placed, other_below, race_ahead, scan_dropped, scans_over, step_lost, step_spends, take_lost, take_spends, takes_leafs}
+use Rattle.rv_bounded.proofs.RaceLaws.{Leafs, Placed, RaceSpends, accepted_room, all_dropped, below_room, give_spends, idle_spends, leafs_placed, least_less, only_leafs, opened_most, opened_placed, other_below, race_ahead, scan_dropped, scans_over, step_lost, step_spends, take_lost, take_spends, takes_leafs}
 use Rattle.rv_bounded.proofs.RaceSound.{RestSound, RunsSound, accepted_rest_sound, advanced_sound, first_sound, goes_sound, held_by, held_sound, kept_at, leaf_sound, list_sound, narrowed_sound, turned_sound, turn_capped, turn_scanned}
 use Rattle.rv_bounded.proofs.Sound.{IsShort, held_short, keeps_fewer, short_held}
-use Rattle.rv_bounded.proofs.Stages.{behind, drawn_short, list_fewer, others_of, others_same, page_rise, record_rise, same_others, stage_by, stage_less, stage_most, sum_to, table_fewer}
+use Rattle.rv_bounded.proofs.Stages.{behind, behind_idle, drawn_short, list_fewer, others_of, others_same, page_rise, record_rise, same_others, stage_by, stage_less, stage_most, sum_to, table_fewer}
 use Rattle.rv_bounded.proofs.Costs.{back_sum}
 use Rattle.rv_bounded.proofs.WholeLaws.{both_lost, whole_sum}
 use Rattle.rv_bounded.proofs.Sums.{same_less, add_lost, sum_none, sum_lost, still_sum}
@@ -99,7 +100,7 @@ stage_at p r c e = ap (λ (k : Control). stage_by k (p + 48) p (keys_work r) r.l
 -- A PIECE IS GIVEN.
 
 gone_sound : (p : ℕ) (h : Happening) (r : Raced) → IfSome r.list (IsFew (p + 48)) → scanning (next_control BackgroundOnly r.control h) ≡ false → RaceSound p (gone h r)
-gone_sound p h r list off = record { runs = λ on. not_racing (scanning (next_control BackgroundOnly r.control h)) on off; list = list }
+gone_sound p h r list off = record { runs = λ on. no_way (sym on ∙ off); list = list }
 
 going_sound : (p : ℕ) (r : Raced) → RestSound p r.counts r.running → IfSome r.list (IsFew (p + 48)) → RaceSound p (going_on r)
 going_sound p r rest list = record { runs = λ on. advanced_sound p (length r.plans) r.counts (is_some r.list) r.running rest; list = list }
@@ -117,7 +118,7 @@ dropped_sound p r on rest list = by (more r)
 stopped_sound : (p : ℕ) (r : Raced) → scanning r.control ≡ true → IfSome r.list (IsFew (p + 48)) → RaceSound p (stopped r)
 stopped_sound p r on list =
     let off : scanning (next_control BackgroundOnly r.control (Ruled AbandonBackground (more r) (is_some r.list))) ≡ false = ap (λ (c : Control). scanning (next_control BackgroundOnly c (Ruled AbandonBackground (more r) (is_some r.list)))) (only_scanning r.control on) ∙ all_dropped (more r) (is_some r.list) in
-    record { runs = λ h. not_racing (scanning (next_control BackgroundOnly r.control (Ruled AbandonBackground (more r) (is_some r.list)))) h off; list = list }
+    record { runs = λ h. no_way (sym h ∙ off); list = list }
 
 passed_sound : (p : ℕ) (r : Raced) → RunsSound p r.counts r.running → IfSome r.list (IsFew (p + 48)) → RaceSound p (passed_on r)
 passed_sound p r runs list = record { runs = λ on. turned_sound p r.counts r.running runs; list = list }
@@ -301,11 +302,6 @@ ended_list (Row x) r = refl
 ended_list Working r = refl
 ended_list End r = refl
 
-behind_idle : (s : Stepped Record) (c : Control) → scanning c ≡ false → scanning (behind s c) ≡ false
-behind_idle (Row x) c off = off
-behind_idle Working c off = off
-behind_idle End c off = refl
-
 -- of the final stage
 stage_others : (p : ℕ) (s : Stepped Record) (at : Control) (old v stepped new : Raced) (c d : Counts) (had : ℕ) → scanning at ≡ false → next_control BackgroundOnly at FinalEnded ≡ Done → v.control ≡ at → v.list ≡ old.list → stepped ≡ ended_by s v → new ≡ record stepped { trace = counted stepped.trace c d } → RaceSound p old → stage_of p old ≡ had → (stepped.control ≡ behind s at → others_of new.trace + stage_of p stepped ≤ others_of old.trace + had + 0) → Others p old new
 stage_others p s at old v stepped new c d had off over is list does e sound was less =
@@ -313,7 +309,7 @@ stage_others p s at old v stepped new c d had off over is list does e sound was 
     let idle : scanning stepped.control ≡ false = ap scanning control ∙ behind_idle s at off in
     let lists : stepped.list ≡ old.list = ap (λ (x : Raced). x.list) does ∙ ended_list s v ∙ list in
     let still : RaceSound p stepped = record {
-      runs = λ on. not_racing (scanning stepped.control) on idle;
+      runs = λ on. no_way (sym on ∙ idle);
       list = subst (λ (l : Option (List ℕ)). IfSome l (IsFew (p + 48))) (sym lists) sound.list;
     } in
     record {

@@ -2,6 +2,7 @@
 use Rattle.std.proofs.Common.{◌≡◌, ℕ, ◌+◌, ◌-◌, ◌*◌, ◌<◌, ◌≤◌, List, [], ◌∷◌, length, length-set, min, Bool, true, false, not, Option, Some, None, IfSome, is_some, nat_lt, refl, ap, sym, ◌∙◌, subst, arith, if◌then◌else◌}
 use Rattle.std.specs.Cmp.{first_so}
 use Rattle.std.proofs.lemmas.Bool.{ltb-true, ltb-false}
+use Rattle.rv_value.proofs.Tests.{no_way}
 use Rattle.rv_value.specs.declared.record.IndexEntry.{IndexEntry}
 use Rattle.rv_judge.specs.declared.counting.Counts.{Counts}
 use Rattle.rv_judge.specs.declared.events.Control.{Control}
@@ -75,10 +76,6 @@ racing_left p planned r on = ap (λ (b : Bool). if b then race_sum p planned r.c
 idle_left : (p planned : ℕ) (r : Raced) → scanning r.control ≡ false → race_ahead p planned r ≡ 0
 idle_left p planned r off = ap (λ (b : Bool). if b then race_sum p planned r.counts r.running else 0) off
 
-pub not_racing : {X : Type 0} (b : Bool) → b ≡ true → b ≡ false → X
-not_racing true on off = absurd (cc)
-not_racing false on off = absurd (cc)
-
 -- Where the background ends no scan is under way.
 
 pub scans_over : (listed : Bool) → scanning (next_control BackgroundOnly BackgroundAlone (ScanEnded false listed)) ≡ false
@@ -110,7 +107,7 @@ going_over p planned q r plans room less on runs left goes =
 
 gone_over : (p planned q : ℕ) (h : Happening) (r : Raced) → length r.plans ≡ planned → planned ≤ length r.counts → r.guaranteed ≤ p → scanning (next_control BackgroundOnly r.control h) ≡ false → Overs p planned q (gone h r)
 gone_over p planned q h r plans room less off = record {
-  placed = record { plans = plans; room = room; less = less; runs = λ on. not_racing (scanning (next_control BackgroundOnly r.control h)) on off };
+  placed = record { plans = plans; room = room; less = less; runs = λ on. no_way (sym on ∙ off) };
   fewer = zero_most (race_ahead p planned (gone h r)) q (idle_left p planned (gone h r) off);
 }
 
@@ -132,7 +129,7 @@ stopped_over : (p planned q : ℕ) (r : Raced) → length r.plans ≡ planned �
 stopped_over p planned q r plans room less on =
     let off : scanning (next_control BackgroundOnly r.control (Ruled AbandonBackground (more r) (is_some r.list))) ≡ false = ap (λ (c : Control). scanning (next_control BackgroundOnly c (Ruled AbandonBackground (more r) (is_some r.list)))) (only_scanning r.control on) ∙ all_dropped (more r) (is_some r.list) in
     record {
-      placed = record { plans = plans; room = room; less = less; runs = λ h. not_racing (scanning (next_control BackgroundOnly r.control (Ruled AbandonBackground (more r) (is_some r.list)))) h off };
+      placed = record { plans = plans; room = room; less = less; runs = λ h. no_way (sym h ∙ off) };
       fewer = zero_most (race_ahead p planned (stopped r)) q (idle_left p planned (stopped r) off);
     }
 
@@ -388,7 +385,7 @@ takes_leafs old new t = record {
 
 takes_held : (taken : Taken) (new : Raced) → scanning new.control ≡ true → TakesPiece new taken → is_some (turn_lane new).held ≡ true
 takes_held (Piece piece) new on answers = has_held (turn_lane new).held piece.entries answers.own.entries
-takes_held Nothing new on answers = not_racing (scanning new.control) on answers
+takes_held Nothing new on answers = no_way (sym on ∙ answers)
 
 pub take_spends : (p planned : ℕ) (taken : Taken) (old new : Raced) → p + 2 * planned < greatest → Placed p planned old → RaceTakes (Some taken) old new → RaceSpends p planned 0 old new
 take_spends p planned taken old new small w takes = record { placed = leafs_placed p planned old new w leafs; fewer = read (reads_leaf old) refl }
@@ -470,7 +467,7 @@ step_lost p planned old new small w lost = record {
             let reads : lost.behind ≡ lost.before = subst (λ (c : Control). MayRead c old lost.before lost.behind) (only_scanning old.control on) lost.may_read ∙ piece_none old lost.before r in
             let sum : race_sum p planned (lane_counts false) (lane_held (turn_lane new).held old) ≤ race_sum p planned old.counts old.running + 1 = held_sum (race_sum p planned (lane_counts false) (lane_held (turn_lane new).held old)) (race_sum p planned old.counts old.running) (to_read p old.running.next (planned - old.running.next)) (other_left p old.counts old.running.other) (share p (turn_scan old)) (counts_at old.counts (turn_scan old)).leaves (held_one (turn_lane new).held) (held_one (turn_lane old).held) refl refl (held_few (turn_lane old).held) in
             sum_more new.trace.leaves old.trace.leaves (race_ahead p planned new) (race_ahead p planned old) (rise_none new.trace.leaves old.trace.leaves lost.before.leaves lost.behind.leaves greatest lost.counts.leaves (ap (λ (c : Counts). c.leaves) reads)) (both_more (race_ahead p planned new) (race_ahead p planned old) (race_sum p planned (lane_counts false) (lane_held (turn_lane new).held old)) (race_sum p planned old.counts old.running) (racing_left p planned new (ap scanning leafs.control ∙ on) ∙ leafs_sum p planned old new leafs false r) (racing_left p planned old on) sum)
-        both false off = sum_lost new.trace.leaves old.trace.leaves (race_ahead p planned new) (race_ahead p planned old) now (leafs_none p planned old new leafs r (λ on. not_racing (scanning old.control) on off))
+        both false off = sum_lost new.trace.leaves old.trace.leaves (race_ahead p planned new) (race_ahead p planned old) now (leafs_none p planned old new leafs r (λ on. no_way (sym on ∙ off)))
 
     by : (b : Bool) → reads_leaf old ≡ b → new.trace.leaves + race_ahead p planned new ≤ old.trace.leaves + race_ahead p planned old + 1
     by true r = sum_lost new.trace.leaves old.trace.leaves (race_ahead p planned new) (race_ahead p planned old) now (leafs_lost p planned old new small w leafs r)
@@ -487,7 +484,7 @@ stage_lowers p planned s old v new w off plans counts guaranteed control over e 
       plans = ap length plans ∙ w.plans;
       room = subst (λ (n : ℕ). planned ≤ n) (sym (ap length counts)) w.room;
       less = subst (λ (n : ℕ). n ≤ p) (sym guaranteed) w.less;
-      runs = λ on. not_racing (scanning v.control) on (ap scanning control ∙ off);
+      runs = λ on. no_way (sym on ∙ ap scanning control ∙ off);
     }
 
     idle : race_ahead p planned v ≡ 0
@@ -499,7 +496,7 @@ stage_lowers p planned s old v new w off plans counts guaranteed control over e 
     by : (s : Stepped Record) → Placed p planned (ended_by s v) × (race_ahead p planned (ended_by s v) ≡ 0)
     by (Row r) = (still, idle)
     by Working = (still, idle)
-    by End = (record { plans = still.plans; room = still.room; less = still.less; runs = λ on. not_racing (scanning (next_control BackgroundOnly v.control FinalEnded)) on gone_off }, idle_left p planned (gone FinalEnded v) gone_off)
+    by End = (record { plans = still.plans; room = still.room; less = still.less; runs = λ on. no_way (sym on ∙ gone_off) }, idle_left p planned (gone FinalEnded v) gone_off)
 
 -- what a step has done is counted behind it
 counted_placed : (p planned : ℕ) (stepped new : Raced) (c d : Counts) → new ≡ record stepped { trace = counted stepped.trace c d } → Placed p planned stepped → Placed p planned new

@@ -1,5 +1,5 @@
 -- What the steps of a final stage cost, of a race and of a union alike: pages and records that are read, and what is then left.
-use Rattle.std.proofs.Common.{◌≡◌, ℕ, ◌+◌, ◌-◌, ◌<◌, ◌≤◌, List, Option, Some, None, IfSome, inl, inr, ap, arith}
+use Rattle.std.proofs.Common.{◌≡◌, ℕ, ◌+◌, ◌-◌, ◌<◌, ◌≤◌, List, false, Option, Some, None, IfSome, inl, inr, refl, ap, arith}
 use Rattle.rv_value.specs.declared.record.IndexEntry.{IndexEntry}
 use Rattle.rv_value.specs.declared.record.Record.{Record}
 use Rattle.rv_judge.specs.declared.counting.Counts.{Counts}
@@ -17,6 +17,7 @@ use Rattle.rv_reader.specs.declared.step.Step.{Step}
 use Rattle.rv_reader.specs.declared.step.Step.TheVariants.{Row, Working, End}
 use Rattle.rv_jscan.specs.declared.jscan.ScanPlan.{ScanPlan}
 use Rattle.rv_jscan.specs.Lanes.{IsLeafAt}
+use Rattle.rv_final.specs.Shell.{scanning}
 use Rattle.rv_final.specs.Stage.{FetchesKey}
 use Rattle.rv_final.specs.Work.{Falls}
 use Rattle.rv_bounded.proofs.Ahead.{greatest}
@@ -42,6 +43,12 @@ abbrev pub behind : Step Record → Control → Control
 behind (Row r) c = c
 behind Working c = c
 behind End c = Done
+
+-- which scans nothing where the control did not
+pub behind_idle : (s : Step Record) (c : Control) → scanning c ≡ false → scanning (behind s c) ≡ false
+behind_idle (Row r) c off = off
+behind_idle Working c off = off
+behind_idle End c off = refl
 
 pub stage_most : (c : Control) (most p keys next : ℕ) → p ≤ most → keys ≤ most → stage_by c most p keys next ≤ most
 stage_most Building most p keys next q h = omega arith

@@ -144,9 +144,6 @@ lost_sound p planned shown old new w s lost = by lost.only.leaves
 page_fewer : (now left was had : ℕ) → now ≤ was + (1 + 0) → left ≤ had → now + left ≤ was + had + 1
 page_fewer now left was had n l = omega (arith, n, l)
 
-leaf_fewer : (now left was had : ℕ) → now ≤ was → left ≡ had → now + left ≤ was + had + 0
-leaf_fewer now left was had n l = omega (arith, n, l)
-
 pub record_few : (c d : Counts) → OneAtMost record_read c d → d.records ≤ c.records + 1
 record_few c d (inl same) = by (ap (λ (x : Counts). x.records) same)
   where
@@ -202,7 +199,7 @@ step_lost_costs p planned query shown old new small w lost = by old.control refl
     no_leaf : is_background old.control ≡ false → lost.behind.leaves ≡ lost.before.leaves → Spends p 0 old new
     no_leaf idle none = record {
       stays = spends.stays;
-      fewer = leaf_fewer new.trace.leaves (ahead p new.joint) old.trace.leaves (ahead p old.joint) (rise_none new.trace.leaves old.trace.leaves lost.before.leaves lost.behind.leaves greatest lost.counts.leaves none) (ap (ahead p) (same_joint idle));
+      fewer = same_fewer new.trace.leaves (ahead p new.joint) old.trace.leaves (ahead p old.joint) (rise_none new.trace.leaves old.trace.leaves lost.before.leaves lost.behind.leaves greatest lost.counts.leaves none) (ap (ahead p) (same_joint idle));
     }
 
     by : (c : Control) → old.control ≡ c → MayRead (kind_of c old.strategy (fresh_of old)) old lost.before lost.behind → Costs p 1 old new

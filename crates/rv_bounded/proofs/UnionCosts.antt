@@ -4,6 +4,7 @@ use Rattle.std.proofs.lemmas.Bool.Decides.{nat_tests}
 use Rattle.std.proofs.lemmas.List.{length-append, length-drop}
 use Rattle.std.proofs.lemmas.List.Sorted.{length_permutation}
 use Rattle.std.proofs.lemmas.Bool.{eqb-true}
+use Rattle.rv_value.proofs.Tests.{no_way}
 use Rattle.rv_value.specs.declared.record.IndexEntry.{IndexEntry}
 use Rattle.rv_judge.specs.declared.counting.Counts.{Counts}
 use Rattle.rv_judge.specs.declared.events.Control.{Control}
@@ -47,8 +48,8 @@ use Rattle.rv_bounded.specs.UnionReads.{UnionAllOver, UnionOver, UnionsAreBounde
 use Rattle.rv_bounded.specs.Unions.{UnionDoesAll, UnionDoesCall, UnionGives, UnionSteps, UnionStepsLost, UnionTakes}
 use Rattle.rv_bounded.proofs.Ahead.{greatest}
 use Rattle.rv_bounded.proofs.Sound.{IsShort, built_sum, held_short, kept_sum, projected_least, short_held}
-use Rattle.rv_bounded.proofs.Stages.{behind, drawn_short, list_fewer, others_of, others_same, page_rise, record_rise, same_others, stage_by, stage_less, stage_most, sum_to, table_fewer}
-use Rattle.rv_bounded.proofs.UnionLaws.{Leafs, Placed, UnionSpends, give_spends, gone_dropped, gone_listed, idle_spends, leafs_placed, not_scanning, only_leafs, opened_most, opened_placed, step_lost, step_spends, take_lost, take_spends, takes_leafs, union_ahead}
+use Rattle.rv_bounded.proofs.Stages.{behind, behind_idle, drawn_short, list_fewer, others_of, others_same, page_rise, record_rise, same_others, stage_by, stage_less, stage_most, sum_to, table_fewer}
+use Rattle.rv_bounded.proofs.UnionLaws.{Leafs, Placed, UnionSpends, give_spends, gone_dropped, gone_listed, idle_spends, leafs_placed, only_leafs, opened_most, opened_placed, step_lost, step_spends, take_lost, take_spends, takes_leafs, union_ahead}
 use Rattle.rv_bounded.proofs.Costs.{back_sum}
 use Rattle.rv_bounded.proofs.WholeLaws.{both_lost}
 use Rattle.rv_bounded.proofs.Sums.{less_more, le_on, same_less, risen_most, zero_least, add_lost, sum_none, sum_lost, still_sum}
@@ -163,7 +164,7 @@ judged_sound p members would state piece old rule w small s goes =
 
 dropped_sound : (p members : ℕ) (verdict : Verdict) (u : Unioned) → scanning u.control ≡ true → goes_on verdict ≡ false → UnionSound p members (dropped verdict u)
 dropped_sound p members verdict u on off = record {
-  member = λ h. not_scanning (scanning (next_control Union u.control (Ruled verdict false false))) h (gone_dropped verdict u.control on off);
+  member = λ h. no_way (sym h ∙ gone_dropped verdict u.control on off);
   keys = zero_least (p + 48 * members);
 }
 
@@ -201,7 +202,7 @@ over_sound p members keys v on there few = by (has_next (joined keys v))
     by : (b : Bool) → UnionSound p members (if b then going_on (joined keys v) else listed (joined keys v))
     by true = going_sound p members keys v there few
     by false = record {
-      member = λ h. not_scanning (scanning (next_control Union v.control (ScanEnded false true))) h (gone_listed v.control on);
+      member = λ h. no_way (sym h ∙ gone_listed v.control on);
       keys = all_members (length keys) p v.member members few there;
     }
 
@@ -372,11 +373,6 @@ ended_keys (Row x) u = refl
 ended_keys Working u = refl
 ended_keys End u = refl
 
-behind_idle : (s : Stepped Record) (c : Control) → scanning c ≡ false → scanning (behind s c) ≡ false
-behind_idle (Row x) c off = off
-behind_idle Working c off = off
-behind_idle End c off = refl
-
 -- of the final stage
 stage_others : (p members : ℕ) (s : Stepped Record) (at : Control) (old v stepped new : Unioned) (c d : Counts) (had : ℕ) → scanning at ≡ false → next_control Union at FinalEnded ≡ Done → v.control ≡ at → v.keys ≡ old.keys → stepped ≡ ended_by s v → new ≡ record stepped { trace = counted stepped.trace c d } → UnionSound p members old → stage_of p members old ≡ had → (stepped.control ≡ behind s at → others_of new.trace + stage_of p members stepped ≤ others_of old.trace + had + 0) → Others p members old new
 stage_others p members s at old v stepped new c d had off over is keys does e sound was less =
@@ -384,7 +380,7 @@ stage_others p members s at old v stepped new c d had off over is keys does e so
     let idle : scanning stepped.control ≡ false = ap scanning control ∙ behind_idle s at off in
     let lists : stepped.keys ≡ old.keys = ap (λ (x : Unioned). x.keys) does ∙ ended_keys s v ∙ keys in
     let still : UnionSound p members stepped = record {
-      member = λ on. not_scanning (scanning stepped.control) on idle;
+      member = λ on. no_way (sym on ∙ idle);
       keys = subst (λ (ks : List ℕ). length ks ≤ p + 48 * members) (sym lists) sound.keys;
     } in
     record {

@@ -2,6 +2,7 @@
 use Rattle.std.proofs.Common.{◌≡◌, ℕ, ◌+◌, ◌-◌, ◌*◌, ◌^◌, ◌<◌, ◌≤◌, List, [], ◌∷◌, length, min, Bool, true, false, not, Option, Some, None, is_some, nat_lt, refl, ap, sym, ◌∙◌, subst, arith, if◌then◌else◌}
 use Rattle.std.specs.Cmp.{first_so}
 use Rattle.std.proofs.lemmas.Bool.{ltb-true, ltb-false}
+use Rattle.rv_value.proofs.Tests.{no_way}
 use Rattle.rv_value.specs.declared.record.IndexEntry.{IndexEntry}
 use Rattle.rv_judge.specs.declared.counting.Counts.{Counts}
 use Rattle.rv_judge.specs.declared.events.Control.{Control}
@@ -75,10 +76,6 @@ scanning_left p members u on = ap (λ (b : Bool). if b then union_sum p members 
 
 idle_left : (p members : ℕ) (u : Unioned) → scanning u.control ≡ false → union_ahead p members u ≡ 0
 idle_left p members u off = ap (λ (b : Bool). if b then union_sum p members u else 0) off
-
-pub not_scanning : {X : Type 0} (b : Bool) → b ≡ true → b ≡ false → X
-not_scanning true on off = absurd (cc)
-not_scanning false on off = absurd (cc)
 
 -- Sums.
 
@@ -258,7 +255,7 @@ takes_leafs old new t = record {
 
 takes_held : (taken : Taken) (new : Unioned) → scanning new.control ≡ true → TakesPiece new taken → is_some new.lane.held ≡ true
 takes_held (Piece piece) new on answers = has_held new.lane.held piece.entries answers.own.entries
-takes_held Nothing new on answers = not_scanning (scanning new.control) on answers
+takes_held Nothing new on answers = no_way (sym on ∙ answers)
 
 pub take_spends : (p members : ℕ) (taken : Taken) (old new : Unioned) → p + 2 * members < greatest → Placed p members old → UnionTakes (Some taken) old new → UnionSpends p members 0 old new
 take_spends p members taken old new small w takes = record { placed = leafs_placed p members old new w leafs; fewer = read (reads_leaf old) refl }
@@ -328,7 +325,7 @@ step_lost p members old new small w lost = record {
     unread r true on =
         let reads : lost.behind ≡ lost.before = subst (λ (c : Control). MayRead c old lost.before lost.behind) (only_scanning old.control on) lost.may_read ∙ piece_none old lost.before r in
         sum_more new.trace.leaves old.trace.leaves (union_ahead p members new) (union_ahead p members old) (rise_none new.trace.leaves old.trace.leaves lost.before.leaves lost.behind.leaves greatest lost.counts.leaves (ap (λ (c : Counts). c.leaves) reads)) (leafs_gone p members old new leafs r on)
-    unread r false off = sum_lost new.trace.leaves old.trace.leaves (union_ahead p members new) (union_ahead p members old) now (leafs_none p members old new leafs r (λ on. not_scanning (scanning old.control) on off))
+    unread r false off = sum_lost new.trace.leaves old.trace.leaves (union_ahead p members new) (union_ahead p members old) now (leafs_none p members old new leafs r (λ on. no_way (sym on ∙ off)))
 
     by : (b : Bool) → reads_leaf old ≡ b → new.trace.leaves + union_ahead p members new ≤ old.trace.leaves + union_ahead p members old + 1
     by true r = sum_lost new.trace.leaves old.trace.leaves (union_ahead p members new) (union_ahead p members old) now (leafs_lost p members old new small w leafs r)

@@ -32,6 +32,7 @@ use Rattle.rv_union.specs.Unioned.{AreMet, SameUnion, Unioned, meets_any, rows_o
 use Rattle.rv_bounded.specs.Calls.{Call, lost_by, lost_of}
 use Rattle.rv_bounded.specs.Calls.Call.{Step, StepLost, Take, TakeLost, Give}
 use Rattle.rv_bounded.specs.Unions.{UnionGives, UnionSteps, UnionStepsLost, UnionTakes}
+use Rattle.rv_bounded.proofs.Sums.{same_less}
 use Rattle.rv_sums.specs.Sums.{HasMet}
 use Rattle.rv_sums.specs.Unions.{UnionCalled, UnionLives}
 use Rattle.rv_sums.proofs.Uniting.{obeys_few}
@@ -88,9 +89,6 @@ unread o n more less same fewer = omega (arith, same, fewer)
 
 one_lost : (a b : ℕ) → a ≤ b + 0 → a ≤ b + 1
 one_lost a b less = omega (arith, less)
-
-same_le : (a b : ℕ) → a ≡ b → a ≤ b
-same_le a b e = omega (arith, e)
 
 by_le : (a b c d : ℕ) → a ≡ b → b ≤ c → d ≡ c → a ≤ d
 by_le a b c d e less f = omega (arith, e, less, f)
@@ -164,7 +162,7 @@ step_few would shown rows old new s listed all = by old.control refl s.does.does
         none_read old.trace.fetches new.trace.fetches s.before.records s.behind.records (left rows old) (left rows new) s.counts.fetches (piece_records old s.before s.behind does.2) (by_le (left rows new) (left rows stepped) (length rows) (left rows old) same (left_most stepped.control (length rows) (keys_work stepped) (λ list. obeys_few (held_next one.taken.lane.held) would s.state s.after shown rows one.piece one.taken stepped one.awaits.under_way one.obeys list drawn met)) (left_at rows old BackgroundAlone e))
     by FinalList e does = list_by s.scanned e does.1 does.2 does.3
     by FinalTable e does = none_read old.trace.fetches new.trace.fetches s.before.records s.behind.records (left rows old) (left rows new) s.counts.fetches (page_records s.scanned s.before s.behind does.1) (none_le (left rows new) (left rows stepped) (left rows old) same (table_by s.scanned e does.2))
-    by Done e does = none_read old.trace.fetches new.trace.fetches s.before.records s.behind.records (left rows old) (left rows new) s.counts.fetches (ap (λ (k : Counts). k.records) does.2) (same_le (left rows new) (left rows old) (same ∙ ap (λ (u : Unioned). left rows u) does.3))
+    by Done e does = none_read old.trace.fetches new.trace.fetches s.before.records s.behind.records (left rows old) (left rows new) s.counts.fetches (ap (λ (k : Counts). k.records) does.2) (same_less (left rows new) (left rows old) (same ∙ ap (λ (u : Unioned). left rows u) does.3))
 
 -- The other calls.
 
@@ -172,14 +170,14 @@ lost_few : (rows : List ℕ) (old new : Unioned) → UnionStepsLost old new → 
 lost_few rows old new s = lost_read old.trace.fetches new.trace.fetches s.before.records s.behind.records (left rows old) (left rows new) s.counts.fetches (may_records old.control old s.before s.behind s.may_read) (by_le (left rows new) (to_fetch old.control (length rows) (keys_work new)) (left rows old) (left rows old) (left_at rows new old.control (ap (λ (u : Unioned). u.control) s.only.same)) (left_less old.control (length rows) (keys_work new) (keys_work old) s.only.fewer) refl)
 
 take_few : (rows : List ℕ) (old new : Unioned) (taken : Option Taken) → UnionTakes taken old new → new.trace.fetches + left rows new ≤ old.trace.fetches + left rows old + 0
-take_few rows old new taken t = none_read old.trace.fetches new.trace.fetches t.before.records t.behind.records (left rows old) (left rows new) t.counts.fetches (piece_records old t.before t.behind t.reads) (same_le (left rows new) (left rows old) (ap (λ (u : Unioned). left rows u) t.leaves.same))
+take_few rows old new taken t = none_read old.trace.fetches new.trace.fetches t.before.records t.behind.records (left rows old) (left rows new) t.counts.fetches (piece_records old t.before t.behind t.reads) (same_less (left rows new) (left rows old) (ap (λ (u : Unioned). left rows u) t.leaves.same))
 
 give_few : (would : ℕ → Facts → Ruling) (shown : Shown) (rows : List ℕ) (old new : Unioned) → UnionGives would old new → AreMet new.keys new.plans shown new.snap → HasMet rows new shown → new.trace.fetches + left rows new ≤ old.trace.fetches + left rows old + 0
 give_few would shown rows old new g listed all = by g.given g.answers g.obeys
   where
     by : (given : Given) → Answers old g.piece given new → GivesOn would g.state g.after g.piece given old new → new.trace.fetches + left rows new ≤ old.trace.fetches + left rows old + 0
     by Accepted awaits obeys = unread old.trace.fetches new.trace.fetches (left rows old) (left rows new) g.counts.fetches (by_le (left rows new) (left rows new) (length rows) (left rows old) refl (left_most new.control (length rows) (keys_work new) (λ list. obeys_few (held_next old.lane.held) would g.state g.after shown rows g.piece old new awaits.under_way obeys list listed all)) (left_at rows old BackgroundAlone (only_scanning old.control awaits.under_way)))
-    by (Stale asked now) answers obeys = unread old.trace.fetches new.trace.fetches (left rows old) (left rows new) g.counts.fetches (same_le (left rows new) (left rows old) (ap (λ (u : Unioned). left rows u) obeys.0))
+    by (Stale asked now) answers obeys = unread old.trace.fetches new.trace.fetches (left rows old) (left rows new) g.counts.fetches (same_less (left rows new) (left rows old) (ap (λ (u : Unioned). left rows u) obeys.0))
 
 call_few : (call : Call) (shown : Shown) (rows : List ℕ) (old new : Unioned) → UnionCalled call shown old new → HasMet rows new shown → new.trace.fetches + left rows new ≤ old.trace.fetches + left rows old + lost_of call
 call_few Step shown rows old new c all = step_few c.would shown rows old new c.does c.fits.listed all
