@@ -142,37 +142,6 @@ impl Retrieval {
         }
     }
 
-    /// A fast-first step while both sides run: a fresh key is fetched, or there is none and a background step is done.
-    fn fast_step<R: Reader>(
-        &mut self,
-        reader: &R,
-        judge: &mut Box<dyn Judge>,
-        steps: &mut Steps<R::Ledger>,
-    ) -> Result<Step<Record>, NoMemory>
-        requires control { self.old.control ≡ Control.Building }
-        requires strategy { self.old.strategy ≡ Strategy.FastFirst }
-        requires fits { RetrievalFits self.old (R.shown reader.now) }
-        ensures steady { Steady self.old self.new }
-        ensures fits { RetrievalFits self.new (R.shown reader.now) }
-        ensures step { IfOk result (DoesStep self.old self.new (R.shown reader.now)) }
-        ensures ends { IfOk result (EndsIn self.new) }
-        ensures err { OnErr result (rest self.new (R.shown reader.now) ≡ rest self.old (R.shown reader.now)) }
-        ensures does { under_way self.old.joint ≡ true → IfOk result (λ s. DoesIts (would judge.old) (state judge.old) (state judge.new) (R.shown reader.now) steps.old steps.new s self.old self.new) }
-        ensures quiet { OnErr result (state judge.new ≡ state judge.old) }
-        ensures may_read { under_way self.old.joint ≡ true → MayReadIts self.old steps.old steps.new }
-        ensures reads { under_way self.old.joint ≡ true → IfOk result (ReadsIts self.old steps.old steps.new) }
-        ensures still { OnErr result (OnlyTakes self.old self.new) }
-        ensures stays { would judge.new ≡ would judge.old }
-        ensures course { OnErr result (SameCourse self.old self.new) }
-        ensures tries { Tries steps.old steps.new (effort self.old (R.shown reader.now)) (effort self.new (R.shown reader.now)) }
-        ensures falls { Awaiting self.old → IfOk result (λ s. Falls s steps.old steps.new (effort self.old (R.shown reader.now)) (effort self.new (R.shown reader.now))) }
-    {
-        match self.fresh_key() {
-            None => self.background_step(reader, judge, steps),
-            Some(row) => self.borrow(reader, row, steps),
-        }
-    }
-
     /// Remembers a row that the foreground's scan gives, where an index-only one runs beside the background.
     pub(crate) fn give_ahead(&mut self, row: RowNo)
         requires room { (is_building self.old.control && is_index_only self.old.strategy) ≡ true → length self.old.delivered < 1024 }
@@ -185,6 +154,8 @@ impl Retrieval {
         }
     }
 
+    /// A step under the control. Where both sides of a fast-first retrieval run, a fresh key is fetched, or there is none and
+    /// a background step is done.
     fn step<R: Reader>(
         &mut self,
         reader: &R,
@@ -214,7 +185,10 @@ impl Retrieval {
     {
         match self.control() {
             Control::Building => match self.strategy() {
-                Strategy::FastFirst => self.fast_step(reader, judge, steps),
+                Strategy::FastFirst => match self.fresh_key() {
+                    None => self.background_step(reader, judge, steps),
+                    Some(key) => self.borrow(reader, key, steps),
+                },
                 Strategy::Sorted | Strategy::IndexOnly => self.front_step(reader, steps),
                 Strategy::Table | Strategy::BackgroundOnly | Strategy::Union => {
                     self.background_step(reader, judge, steps)

@@ -1,18 +1,22 @@
-use Rattle.std.proofs.Common.{◌∙◌, ap, refl, sym, ◌≡◌, ◌⊎◌, ◌&&◌, inl, inr}
+use Rattle.std.proofs.Common.{◌∙◌, ap, refl, subst, sym, ◌≡◌, ◌⊎◌, ◌&&◌, inl, inr}
 use Rattle.rv_judge.specs.declared.events.Control.TheVariants.{ForegroundAlone, BackgroundAlone, FinalList, FinalTable}
 use Rattle.rv_value.proofs.Lists.{on_err}
 use Rattle.rv_retrieval.specs.Accounts.{fresh_of}
-use Rattle.rv_retrieval.specs.Shape.{is_background, is_building, is_index_only}
-use Rattle.rv_retrieval.specs.Stepping.{NextKey, NextPage, Piece, Walk}
+use Rattle.rv_retrieval.specs.Effort.{Awaiting}
+use Rattle.rv_retrieval.specs.Shape.{Shape, is_background, is_building, is_index_only}
+use Rattle.rv_retrieval.specs.Stepping.{Borrow, NextKey, NextPage, Piece, Walk, piece_read, while_both}
 use Rattle.rv_retrieval.proofs.Ahead.{ahead_forgets, beside_ahead, beside_does, beside_may_read, beside_reads}
 use Rattle.rv_retrieval.proofs.OfKinds.{course_if, does_by, key_does, kind_at, may_read_by, page_does, reads_always, reads_as, reads_by, rest_if, walk_does}
-use Rattle.rv_retrieval.proofs.Waiting.{keys_only, only_if, steady_at}
+use Rattle.rv_retrieval.proofs.Waiting.{after_borrowed, keys_only, only_if, steady_at, steady_borrowed}
 use Rattle.rv_retrieval.proofs.Controls.{done_rest, passed_rest}
 use Rattle.rv_retrieval.proofs.Listed.{at_course, at_settled, keys_fit, keys_try, list_control, list_does, list_ended_by, list_ends, list_falls, list_fits, list_keys, list_records, list_settled, list_steady, list_tries, not_done}
 use Rattle.rv_judge.specs.declared.events.Control.{Control}
 use Rattle.rv_judge.specs.declared.events.Strategy.{Strategy}
-use Rattle.rv_judge.specs.declared.events.Strategy.TheVariants.{Table, BackgroundOnly, Sorted, IndexOnly, Union}
-use Rattle.rv_retrieval.proofs.Stepped.{background_kind, piece_does}
+use Rattle.rv_judge.specs.declared.events.Strategy.TheVariants.{Table, BackgroundOnly, FastFirst, Sorted, IndexOnly, Union}
+use Rattle.rv_retrieval.proofs.Delivering.{does_from, rest_from}
+use Rattle.rv_retrieval.proofs.Passing.{borrow_does, falls_from, fast_kind, fresh_passed, passed_course, passed_effort, tries_from}
+use Rattle.rv_retrieval.proofs.Stepped.{background_kind, fast_behind, piece_does}
+use Rattle.rv_retrieval.proofs.Switching.{borrow_keeps}
 use Rattle.rv_retrieval.proofs.retrieval.Retrieval.step.Goals as goal
 
 of_one : (s r : Strategy) → r ≡ s → (r ≡ Table) ⊎ ((r ≡ BackgroundOnly) ⊎ (r ≡ Union)) → (s ≡ Table) ⊎ ((s ≡ BackgroundOnly) ⊎ (s ≡ Union))
@@ -24,47 +28,104 @@ of_two : (s r : Strategy) → r ≡ s → (r ≡ Sorted) ⊎ (r ≡ IndexOnly) �
 of_two s r is (inl sorted) = inl (sym is ∙ sorted)
 of_two s r is (inr alone) = inr (sym is ∙ alone)
 
-pub returns-in-FastFirst-clause-steady : goal.returns-in-FastFirst-clause-steady
-returns-in-FastFirst-clause-steady g c = c.fast_step.ensures.steady
+pub returns-in-None-clause-step : goal.returns-in-None-clause-step
+returns-in-None-clause-step g c =
+    let shown = g.R.Reader.shown c.args.reader.now in
+    let v = c.args.self.now in
+    let mid = c.fresh_key.new.self in
+    does_from c.background_step.result v mid c.background_step.new.self shown (ap (λ (x : Shape). x.query) c.fresh_key.ensures.same) ((borrow_keeps v mid mid.borrowed c.fresh_key.ensures.same).rest shown c.requires.fits) c.background_step.ensures.step
 
-pub returns-in-FastFirst-clause-fits : goal.returns-in-FastFirst-clause-fits
-returns-in-FastFirst-clause-fits g c = c.fast_step.ensures.fits
+pub returns-in-None-clause-err : goal.returns-in-None-clause-err
+returns-in-None-clause-err g c =
+    let shown = g.R.Reader.shown c.args.reader.now in
+    let v = c.args.self.now in
+    let mid = c.fresh_key.new.self in
+    rest_from c.background_step.result v mid c.background_step.new.self shown ((borrow_keeps v mid mid.borrowed c.fresh_key.ensures.same).rest shown c.requires.fits) c.background_step.ensures.err
 
-pub returns-in-FastFirst-clause-step : goal.returns-in-FastFirst-clause-step
-returns-in-FastFirst-clause-step g c = c.fast_step.ensures.step
+pub returns-in-Some-clause-step : goal.returns-in-Some-clause-step
+returns-in-Some-clause-step g c =
+    let shown = g.R.Reader.shown c.args.reader.now in
+    let v = c.args.self.now in
+    let mid = c.fresh_key.new.self in
+    does_from c.borrow.result v mid c.borrow.new.self shown (ap (λ (x : Shape). x.query) c.fresh_key.ensures.same) ((borrow_keeps v mid mid.borrowed c.fresh_key.ensures.same).rest shown c.requires.fits) c.borrow.ensures.step
 
-pub returns-in-FastFirst-clause-ends : goal.returns-in-FastFirst-clause-ends
-returns-in-FastFirst-clause-ends g c = c.fast_step.ensures.ends
+pub returns-in-None-clause-does : goal.returns-in-None-clause-does
+returns-in-None-clause-does g c way =
+    let v = c.args.self.now in
+    let mid = c.fresh_key.new.self in
+    fast_behind c.background_step.result _ _ _ (g.R.Reader.shown c.args.reader.now) c.args.steps.now c.background_step.new.steps v mid c.background_step.new.self (sym c.control.ensures ∙ c.in-Building.is) (sym c.strategy.ensures ∙ c.in-FastFirst.is) c.fresh_key.ensures.same c.fresh_key.ensures.further (c.fresh_key.ensures.passes (way (ap is_background (sym c.control.ensures ∙ c.in-Building.is)))) (c.in-None.ensures.first (way (ap is_background (sym c.control.ensures ∙ c.in-Building.is)))) c.background_step.ensures.does
 
-pub returns-in-FastFirst-clause-err : goal.returns-in-FastFirst-clause-err
-returns-in-FastFirst-clause-err g c = c.fast_step.ensures.err
+pub returns-in-None-clause-steady : goal.returns-in-None-clause-steady
+returns-in-None-clause-steady g c = steady_borrowed c.args.self.now c.fresh_key.new.self c.background_step.new.self c.fresh_key.ensures.same c.background_step.ensures.steady
 
-pub returns-in-FastFirst-clause-quiet : goal.returns-in-FastFirst-clause-quiet
-returns-in-FastFirst-clause-quiet g c = c.fast_step.ensures.quiet
+pub returns-in-None-clause-fits : goal.returns-in-None-clause-fits
+returns-in-None-clause-fits g c = c.background_step.ensures.fits
 
-pub returns-in-FastFirst-clause-still : goal.returns-in-FastFirst-clause-still
-returns-in-FastFirst-clause-still g c = c.fast_step.ensures.still
+pub returns-in-None-clause-ends : goal.returns-in-None-clause-ends
+returns-in-None-clause-ends g c = c.background_step.ensures.ends
 
-pub returns-in-FastFirst-clause-stays : goal.returns-in-FastFirst-clause-stays
-returns-in-FastFirst-clause-stays g c = c.fast_step.ensures.stays
+pub returns-in-Some-clause-fits : goal.returns-in-Some-clause-fits
+returns-in-Some-clause-fits g c = c.borrow.ensures.fits
 
-pub returns-in-FastFirst-clause-course : goal.returns-in-FastFirst-clause-course
-returns-in-FastFirst-clause-course g c = c.fast_step.ensures.course
+pub returns-in-Some-clause-ends : goal.returns-in-Some-clause-ends
+returns-in-Some-clause-ends g c = c.borrow.ensures.ends
 
-pub returns-in-FastFirst-clause-tries : goal.returns-in-FastFirst-clause-tries
-returns-in-FastFirst-clause-tries g c = c.fast_step.ensures.tries
+pub returns-in-None-clause-quiet : goal.returns-in-None-clause-quiet
+returns-in-None-clause-quiet g c = c.background_step.ensures.quiet
 
-pub returns-in-FastFirst-clause-falls : goal.returns-in-FastFirst-clause-falls
-returns-in-FastFirst-clause-falls g c = c.fast_step.ensures.falls
+pub returns-in-None-clause-stays : goal.returns-in-None-clause-stays
+returns-in-None-clause-stays g c = c.background_step.ensures.stays
 
-pub returns-in-FastFirst-clause-does : goal.returns-in-FastFirst-clause-does
-returns-in-FastFirst-clause-does g c way = c.fast_step.ensures.does (way (ap is_background (sym c.control.ensures ∙ c.in-Building.is)))
+pub returns-in-Some-clause-quiet : goal.returns-in-Some-clause-quiet
+returns-in-Some-clause-quiet g c = on_err _ _ refl
 
-pub returns-in-FastFirst-clause-may_read : goal.returns-in-FastFirst-clause-may_read
-returns-in-FastFirst-clause-may_read g c way = c.fast_step.ensures.may_read (way (ap is_background (sym c.control.ensures ∙ c.in-Building.is)))
+pub returns-in-Some-clause-stays : goal.returns-in-Some-clause-stays
+returns-in-Some-clause-stays g c = refl
 
-pub returns-in-FastFirst-clause-reads : goal.returns-in-FastFirst-clause-reads
-returns-in-FastFirst-clause-reads g c way = c.fast_step.ensures.reads (way (ap is_background (sym c.control.ensures ∙ c.in-Building.is)))
+pub returns-in-Some-clause-steady : goal.returns-in-Some-clause-steady
+returns-in-Some-clause-steady g c = steady_borrowed c.args.self.now c.fresh_key.new.self c.borrow.new.self c.fresh_key.ensures.same c.borrow.ensures.steady
+
+pub returns-in-None-clause-tries : goal.returns-in-None-clause-tries
+returns-in-None-clause-tries g c = tries_from _ _ _ _ _ (passed_effort c.args.self.now c.fresh_key.new.self (g.R.Reader.shown c.args.reader.now) (sym c.control.ensures ∙ c.in-Building.is) c.fresh_key.ensures.same c.fresh_key.ensures.fewer) c.background_step.ensures.tries
+
+pub returns-in-None-clause-falls : goal.returns-in-None-clause-falls
+returns-in-None-clause-falls g c a = falls_from c.background_step.result _ _ _ _ _ (passed_effort c.args.self.now c.fresh_key.new.self (g.R.Reader.shown c.args.reader.now) (sym c.control.ensures ∙ c.in-Building.is) c.fresh_key.ensures.same c.fresh_key.ensures.fewer) (c.background_step.ensures.falls (ap (λ (x : Shape). is_background x.control) c.fresh_key.ensures.same ∙ ap is_background (sym c.control.ensures ∙ c.in-Building.is)) (subst Awaiting (sym c.fresh_key.ensures.same) (record { way = a.way; both = a.both })))
+
+pub returns-in-None-clause-still : goal.returns-in-None-clause-still
+returns-in-None-clause-still g c = after_borrowed c.background_step.result c.args.self.now c.fresh_key.new.self c.background_step.new.self c.fresh_key.ensures.same (λ way. fresh_passed c.args.self.now c.fresh_key.new.self c.fresh_key.ensures.same (c.fresh_key.ensures.passes way)) c.fresh_key.ensures.further c.background_step.ensures.still
+
+pub returns-in-None-clause-course : goal.returns-in-None-clause-course
+returns-in-None-clause-course g c = passed_course c.background_step.result c.args.self.now c.fresh_key.new.self c.background_step.new.self c.fresh_key.ensures.same c.background_step.ensures.course
+
+pub returns-in-None-clause-may_read : goal.returns-in-None-clause-may_read
+returns-in-None-clause-may_read g c way = may_read_by Piece c.args.self.now c.args.steps.now c.background_step.new.steps (fast_kind c.args.self.now (sym c.control.ensures ∙ c.in-Building.is) (sym c.strategy.ensures ∙ c.in-FastFirst.is) ∙ ap (while_both FastFirst) (c.in-None.ensures.first (way (ap is_background (sym c.control.ensures ∙ c.in-Building.is))))) (subst (λ (x : Shape). c.background_step.new.steps ≡ piece_read x c.args.steps.now) c.fresh_key.ensures.same c.background_step.ensures.reads)
+
+pub returns-in-None-clause-reads : goal.returns-in-None-clause-reads
+returns-in-None-clause-reads g c way = reads_always c.background_step.result Piece c.args.self.now c.args.steps.now c.background_step.new.steps (fast_kind c.args.self.now (sym c.control.ensures ∙ c.in-Building.is) (sym c.strategy.ensures ∙ c.in-FastFirst.is) ∙ ap (while_both FastFirst) (c.in-None.ensures.first (way (ap is_background (sym c.control.ensures ∙ c.in-Building.is))))) (λ s. (subst (λ (x : Shape). c.background_step.new.steps ≡ piece_read x c.args.steps.now) c.fresh_key.ensures.same c.background_step.ensures.reads))
+
+pub returns-in-Some-clause-tries : goal.returns-in-Some-clause-tries
+returns-in-Some-clause-tries g c = tries_from _ _ _ _ _ (passed_effort c.args.self.now c.fresh_key.new.self (g.R.Reader.shown c.args.reader.now) (sym c.control.ensures ∙ c.in-Building.is) c.fresh_key.ensures.same c.fresh_key.ensures.fewer) c.borrow.ensures.tries
+
+pub returns-in-Some-clause-falls : goal.returns-in-Some-clause-falls
+returns-in-Some-clause-falls g c a = falls_from c.borrow.result _ _ _ _ _ (passed_effort c.args.self.now c.fresh_key.new.self (g.R.Reader.shown c.args.reader.now) (sym c.control.ensures ∙ c.in-Building.is) c.fresh_key.ensures.same c.fresh_key.ensures.fewer) (c.borrow.ensures.falls c.in-Some.ensures.near)
+
+pub returns-in-Some-clause-still : goal.returns-in-Some-clause-still
+returns-in-Some-clause-still g c = after_borrowed c.borrow.result c.args.self.now c.fresh_key.new.self c.borrow.new.self c.fresh_key.ensures.same (λ way. fresh_passed c.args.self.now c.fresh_key.new.self c.fresh_key.ensures.same (c.fresh_key.ensures.passes way)) c.fresh_key.ensures.further (only_if c.borrow.result c.fresh_key.new.self c.borrow.new.self c.borrow.ensures.err)
+
+pub returns-in-Some-clause-course : goal.returns-in-Some-clause-course
+returns-in-Some-clause-course g c = passed_course c.borrow.result c.args.self.now c.fresh_key.new.self c.borrow.new.self c.fresh_key.ensures.same (course_if c.borrow.result c.fresh_key.new.self c.borrow.new.self c.borrow.ensures.err)
+
+pub returns-in-Some-clause-err : goal.returns-in-Some-clause-err
+returns-in-Some-clause-err g c = rest_from c.borrow.result c.args.self.now c.fresh_key.new.self c.borrow.new.self (g.R.Reader.shown c.args.reader.now) ((borrow_keeps c.args.self.now c.fresh_key.new.self c.fresh_key.new.self.borrowed c.fresh_key.ensures.same).rest (g.R.Reader.shown c.args.reader.now) c.requires.fits) (rest_if c.borrow.result c.fresh_key.new.self c.borrow.new.self (g.R.Reader.shown c.args.reader.now) c.borrow.ensures.err)
+
+pub returns-in-Some-clause-may_read : goal.returns-in-Some-clause-may_read
+returns-in-Some-clause-may_read g c way = may_read_by (Borrow c.in-Some.key.0) c.args.self.now c.args.steps.now c.borrow.new.steps (fast_kind c.args.self.now (sym c.control.ensures ∙ c.in-Building.is) (sym c.strategy.ensures ∙ c.in-FastFirst.is) ∙ ap (while_both FastFirst) (c.in-Some.ensures.first (way (ap is_background (sym c.control.ensures ∙ c.in-Building.is))))) c.borrow.ensures.reads
+
+pub returns-in-Some-clause-reads : goal.returns-in-Some-clause-reads
+returns-in-Some-clause-reads g c way = reads_always c.borrow.result (Borrow c.in-Some.key.0) c.args.self.now c.args.steps.now c.borrow.new.steps (fast_kind c.args.self.now (sym c.control.ensures ∙ c.in-Building.is) (sym c.strategy.ensures ∙ c.in-FastFirst.is) ∙ ap (while_both FastFirst) (c.in-Some.ensures.first (way (ap is_background (sym c.control.ensures ∙ c.in-Building.is))))) (λ s. c.borrow.ensures.reads)
+
+pub returns-in-Some-clause-does : goal.returns-in-Some-clause-does
+returns-in-Some-clause-does g c way = borrow_does c.borrow.result _ _ (g.R.Reader.shown c.args.reader.now) c.args.steps.now c.borrow.new.steps c.args.self.now c.fresh_key.new.self c.borrow.new.self c.in-Some.key.0 (fast_kind c.args.self.now (sym c.control.ensures ∙ c.in-Building.is) (sym c.strategy.ensures ∙ c.in-FastFirst.is) ∙ ap (while_both FastFirst) (c.in-Some.ensures.first (way (ap is_background (sym c.control.ensures ∙ c.in-Building.is))))) c.fresh_key.ensures.same c.fresh_key.ensures.further c.borrow.ensures.does
 
 pub returns-in-Sorted-clause-steady : goal.returns-in-Sorted-clause-steady
 returns-in-Sorted-clause-steady g c = c.front_step.ensures.steady
@@ -124,46 +185,46 @@ pub front_step-requires-clause-front : goal.front_step-requires-clause-front
 front_step-requires-clause-front g c = beside_ahead c.args.self.now (sym c.control.ensures ∙ c.in-Building.is) (of_two _ c.strategy.result c.strategy.ensures c.in-Sorted.is)
 
 pub returns-in-Table-clause-steady : goal.returns-in-Table-clause-steady
-returns-in-Table-clause-steady g c = c.background_step.ensures.steady
+returns-in-Table-clause-steady g c = c.background_step-in-Table.ensures.steady
 
 pub returns-in-Table-clause-fits : goal.returns-in-Table-clause-fits
-returns-in-Table-clause-fits g c = c.background_step.ensures.fits
+returns-in-Table-clause-fits g c = c.background_step-in-Table.ensures.fits
 
 pub returns-in-Table-clause-step : goal.returns-in-Table-clause-step
-returns-in-Table-clause-step g c = c.background_step.ensures.step
+returns-in-Table-clause-step g c = c.background_step-in-Table.ensures.step
 
 pub returns-in-Table-clause-ends : goal.returns-in-Table-clause-ends
-returns-in-Table-clause-ends g c = c.background_step.ensures.ends
+returns-in-Table-clause-ends g c = c.background_step-in-Table.ensures.ends
 
 pub returns-in-Table-clause-err : goal.returns-in-Table-clause-err
-returns-in-Table-clause-err g c = c.background_step.ensures.err
+returns-in-Table-clause-err g c = c.background_step-in-Table.ensures.err
 
 pub returns-in-Table-clause-quiet : goal.returns-in-Table-clause-quiet
-returns-in-Table-clause-quiet g c = c.background_step.ensures.quiet
+returns-in-Table-clause-quiet g c = c.background_step-in-Table.ensures.quiet
 
 pub returns-in-Table-clause-still : goal.returns-in-Table-clause-still
-returns-in-Table-clause-still g c = c.background_step.ensures.still
+returns-in-Table-clause-still g c = c.background_step-in-Table.ensures.still
 
 pub returns-in-Table-clause-stays : goal.returns-in-Table-clause-stays
-returns-in-Table-clause-stays g c = c.background_step.ensures.stays
+returns-in-Table-clause-stays g c = c.background_step-in-Table.ensures.stays
 
 pub returns-in-Table-clause-course : goal.returns-in-Table-clause-course
-returns-in-Table-clause-course g c = c.background_step.ensures.course
+returns-in-Table-clause-course g c = c.background_step-in-Table.ensures.course
 
 pub returns-in-Table-clause-tries : goal.returns-in-Table-clause-tries
-returns-in-Table-clause-tries g c = c.background_step.ensures.tries
+returns-in-Table-clause-tries g c = c.background_step-in-Table.ensures.tries
 
 pub returns-in-Table-clause-falls : goal.returns-in-Table-clause-falls
-returns-in-Table-clause-falls g c a = c.background_step.ensures.falls (ap is_background (sym c.control.ensures ∙ c.in-Building.is)) a
+returns-in-Table-clause-falls g c a = c.background_step-in-Table.ensures.falls (ap is_background (sym c.control.ensures ∙ c.in-Building.is)) a
 
 pub returns-in-Table-clause-may_read : goal.returns-in-Table-clause-may_read
-returns-in-Table-clause-may_read g c way = may_read_by Piece c.args.self.now c.args.steps.now c.background_step.new.steps (background_kind c.args.self.now.control c.args.self.now.strategy (fresh_of c.args.self.now) (sym c.control.ensures ∙ c.in-Building.is) (of_one _ c.strategy.result c.strategy.ensures c.in-Table.is)) c.background_step.ensures.reads
+returns-in-Table-clause-may_read g c way = may_read_by Piece c.args.self.now c.args.steps.now c.background_step-in-Table.new.steps (background_kind c.args.self.now.control c.args.self.now.strategy (fresh_of c.args.self.now) (sym c.control.ensures ∙ c.in-Building.is) (of_one _ c.strategy.result c.strategy.ensures c.in-Table.is)) c.background_step-in-Table.ensures.reads
 
 pub returns-in-Table-clause-reads : goal.returns-in-Table-clause-reads
-returns-in-Table-clause-reads g c way = reads_always c.background_step.result Piece c.args.self.now c.args.steps.now c.background_step.new.steps (background_kind c.args.self.now.control c.args.self.now.strategy (fresh_of c.args.self.now) (sym c.control.ensures ∙ c.in-Building.is) (of_one _ c.strategy.result c.strategy.ensures c.in-Table.is)) (λ s. c.background_step.ensures.reads)
+returns-in-Table-clause-reads g c way = reads_always c.background_step-in-Table.result Piece c.args.self.now c.args.steps.now c.background_step-in-Table.new.steps (background_kind c.args.self.now.control c.args.self.now.strategy (fresh_of c.args.self.now) (sym c.control.ensures ∙ c.in-Building.is) (of_one _ c.strategy.result c.strategy.ensures c.in-Table.is)) (λ s. c.background_step-in-Table.ensures.reads)
 
 pub returns-in-Table-clause-does : goal.returns-in-Table-clause-does
-returns-in-Table-clause-does g c way = piece_does c.background_step.result _ _ _ (g.R.Reader.shown c.args.reader.now) c.args.steps.now c.background_step.new.steps c.args.self.now c.background_step.new.self (sym c.control.ensures ∙ c.in-Building.is) (of_one _ c.strategy.result c.strategy.ensures c.in-Table.is) c.background_step.ensures.does
+returns-in-Table-clause-does g c way = piece_does c.background_step-in-Table.result _ _ _ (g.R.Reader.shown c.args.reader.now) c.args.steps.now c.background_step-in-Table.new.steps c.args.self.now c.background_step-in-Table.new.self (sym c.control.ensures ∙ c.in-Building.is) (of_one _ c.strategy.result c.strategy.ensures c.in-Table.is) c.background_step-in-Table.ensures.does
 
 pub returns-in-Done-clause-step : goal.returns-in-Done-clause-step
 returns-in-Done-clause-step g c =
