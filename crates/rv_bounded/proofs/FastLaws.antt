@@ -27,8 +27,8 @@ use Rattle.rv_bounded.proofs.Fast.{Lending, LoanCosts, due_building, due_of, giv
 use Rattle.rv_bounded.proofs.FastSteps.{step_lends, step_lost_lends, take_lends, take_lost_lends}
 use Rattle.rv_bounded.proofs.Loans.{loans, loans_by, loans_first, most_by, part}
 use Rattle.rv_bounded.proofs.Sound.{first_sound}
-use Rattle.rv_bounded.proofs.WholeLaws.{Alone, both_lost, eight_counts, not_one, opened_ahead, room_for, small_all, starts_of}
-use Rattle.rv_bounded.proofs.Sums.{same_less, zero_most, add_lost, small_pages, none_risen, still_sum}
+use Rattle.rv_bounded.proofs.WholeLaws.{Alone, eight_counts, not_one, opened_ahead, room_for, small_all, starts_of}
+use Rattle.rv_bounded.proofs.Sums.{Spent, none_spent, same_less, zero_most, small_pages, spent_on, none_risen}
 
 -- ONE CALL
 
@@ -41,28 +41,17 @@ fast_call p planned query shown Give would old new small pages rule l does = giv
 
 -- ALL CALLS
 
-pub record AllLend (query : Query) (p planned lost : ℕ) (old new : Shape) : Type 0 where
-  pub lending : Lending query p planned new
-  pub leaf : ℕ
-  pub other : ℕ
-  pub both : leaf + other ≡ lost
-  pub leaves : new.trace.leaves + ahead p new.joint ≤ old.trace.leaves + ahead p old.joint + leaf
-  pub fewer : others new + due_of p new ≤ others old + due_of p old + other
+abbrev pub AllLend : Query → ℕ → ℕ → ℕ → Shape → Shape → Type 0
+AllLend query p planned lost old new = Spent (Lending query p planned) (λ (v : Shape). v.trace.leaves + ahead p v.joint) (λ (v : Shape). others v + due_of p v) lost old new
 
 pub all_lend : (p planned : ℕ) (query : Query) (shown : Shown) (calls : List Call) (old new : Shape) → p + 2 * planned < greatest → p ≡ shown.pages query.table query.snap → Lending query p planned old → DoesAll calls shown old new → AllLend query p planned (lost_by calls) old new
-all_lend p planned query shown [] old new small pages l does = subst (AllLend query p planned 0 old) (sym does) (record { lending = l; leaf = 0; other = 0; both = refl; leaves = still_sum old.trace.leaves (ahead p old.joint); fewer = still_sum (others old) (due_of p old) })
+all_lend p planned query shown [] old new small pages l does = none_spent old new does l
 all_lend p planned query shown (call ∷ calls) old new small pages l does =
     let mid = does.0 in
     let before = all_lend p planned query shown calls old mid small pages l does.1 in
-    let last = fast_call p planned query shown call does.2.would mid new small pages does.2.bounded before.lending does.2.does in
-    record {
-      lending = lending_on query p planned (lost_of call) mid new last before.lending;
-      leaf = before.leaf + last.leaf;
-      other = before.other + last.other;
-      both = both_lost before.leaf before.other last.leaf last.other (lost_by calls) (lost_of call) before.both last.both;
-      leaves = add_lost (new.trace.leaves + ahead p new.joint) (mid.trace.leaves + ahead p mid.joint) (old.trace.leaves + ahead p old.joint) before.leaf last.leaf before.leaves last.spends.fewer;
-      fewer = add_lost (others new + due_of p new) (others mid + due_of p mid) (others old + due_of p old) before.other last.other before.fewer last.fewer;
-    }
+    let cost = fast_call p planned query shown call does.2.would mid new small pages does.2.bounded before.holds does.2.does in
+    let last : AllLend query p planned (lost_of call) mid new = record { holds = lending_on query p planned (lost_of call) mid new cost before.holds; leaf = cost.leaf; other = cost.other; both = cost.both; leaves = cost.spends.fewer; fewer = cost.fewer } in
+    spent_on (lost_by calls) (lost_of call) old mid new before last
 
 -- AT OPENING
 

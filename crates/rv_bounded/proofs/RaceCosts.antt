@@ -49,8 +49,8 @@ use Rattle.rv_bounded.proofs.RaceSound.{RestSound, RunsSound, accepted_rest_soun
 use Rattle.rv_bounded.proofs.Sound.{IsShort, held_short, keeps_fewer, short_held}
 use Rattle.rv_bounded.proofs.Stages.{behind, behind_idle, drawn_short, list_fewer, others_of, others_same, page_rise, record_rise, same_others, stage_by, stage_less, stage_most, sum_to, table_fewer}
 use Rattle.rv_bounded.proofs.Costs.{back_sum}
-use Rattle.rv_bounded.proofs.WholeLaws.{both_lost, whole_sum}
-use Rattle.rv_bounded.proofs.Sums.{same_less, add_lost, sum_none, sum_lost, still_sum}
+use Rattle.rv_bounded.proofs.WholeLaws.{whole_sum}
+use Rattle.rv_bounded.proofs.Sums.{Spent, none_spent, same_less, spent_on, sum_none, sum_lost}
 use Rattle.rv_bounded.proofs.Reading.{one_record, one_page}
 
 -- a list has no more keys than so many
@@ -363,28 +363,17 @@ does_costs p planned Take would old new small most rule w does fits = takes_cost
 does_costs p planned TakeLost would old new small most rule w does fits = takes_costs p planned 1 None fits.0 old new (take_lost p planned old new small w.placed does) w does fits.1 refl
 does_costs p planned Give would old new small most rule w does none = give_costs p planned would old new most rule w does
 
-record AllCost (p planned lost : ℕ) (old new : Raced) : Type 0 where
-  whole : RaceWhole p planned new
-  leaf : ℕ
-  other : ℕ
-  both : leaf + other ≡ lost
-  leaves : new.trace.leaves + race_ahead p planned new ≤ old.trace.leaves + race_ahead p planned old + leaf
-  fewer : others_of new.trace + stage_of p new ≤ others_of old.trace + stage_of p old + other
+abbrev AllCost : ℕ → ℕ → ℕ → Raced → Raced → Type 0
+AllCost p planned lost old new = Spent (RaceWhole p planned) (λ (r : Raced). r.trace.leaves + race_ahead p planned r) (λ (r : Raced). others_of r.trace + stage_of p r) lost old new
 
 all_cost : (p planned : ℕ) (calls : List Call) (old new : Raced) → p + 2 * planned < greatest → p ≤ greatest → RaceWhole p planned old → (does : RaceDoesAll calls old new) → RaceAllOver calls p old new does → AllCost p planned (lost_by calls) old new
-all_cost p planned [] old new small most w does over = subst (AllCost p planned 0 old) (sym does) (record { whole = w; leaf = 0; other = 0; both = refl; leaves = still_sum old.trace.leaves (race_ahead p planned old); fewer = still_sum (others_of old.trace) (stage_of p old) })
+all_cost p planned [] old new small most w does over = none_spent old new does w
 all_cost p planned (call ∷ calls) old new small most w does over =
     let mid = does.0 in
     let before = all_cost p planned calls old mid small most w does.1 over.0 in
-    let last = does_costs p planned call does.2.would mid new small most does.2.bounded before.whole does.2.does over.1 in
-    record {
-      whole = whole_on p planned (lost_of call) mid new last before.whole;
-      leaf = before.leaf + last.leaf;
-      other = before.other + last.other;
-      both = both_lost before.leaf before.other last.leaf last.other (lost_by calls) (lost_of call) before.both last.both;
-      leaves = add_lost (new.trace.leaves + race_ahead p planned new) (mid.trace.leaves + race_ahead p planned mid) (old.trace.leaves + race_ahead p planned old) before.leaf last.leaf before.leaves last.spends.fewer;
-      fewer = add_lost (others_of new.trace + stage_of p new) (others_of mid.trace + stage_of p mid) (others_of old.trace + stage_of p old) before.other last.other before.fewer last.fewer;
-    }
+    let cost = does_costs p planned call does.2.would mid new small most does.2.bounded before.holds does.2.does over.1 in
+    let last : AllCost p planned (lost_of call) mid new = record { holds = whole_on p planned (lost_of call) mid new cost before.holds; leaf = cost.leaf; other = cost.other; both = cost.both; leaves = cost.spends.fewer; fewer = cost.fewer } in
+    spent_on (lost_by calls) (lost_of call) old mid new before last
 
 -- THE LAW
 

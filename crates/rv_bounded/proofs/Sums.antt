@@ -1,5 +1,5 @@
 -- Sums and orders of numbers, as several of these files need them.
-use Rattle.std.proofs.Common.{◌≡◌, ℕ, suc, ◌+◌, ◌-◌, ◌*◌, ◌<◌, ◌≤◌, min, arith}
+use Rattle.std.proofs.Common.{◌≡◌, ℕ, suc, ◌+◌, ◌-◌, ◌*◌, ◌<◌, ◌≤◌, min, arith, refl, sym, subst}
 
 pub at_most : (n : ℕ) → n ≤ n
 at_most n = omega arith
@@ -115,3 +115,29 @@ still_sum n a = omega arith
 
 pub lost_sum : (new old whole rest share spent after held had most : ℕ) → new ≡ whole - min after (1 + share + held) → old ≡ whole - min spent (1 + share + had) → whole ≡ 2 + share + rest → after ≡ min (spent + 1) most → had ≡ 0 → 2 + share ≤ most → new ≤ old
 lost_sum new old whole rest share spent after held had most n o w a d s = omega (arith, n, o, w, a, d, s)
+
+-- WHAT CALLS ONE AFTER ANOTHER COST: the leaves, with those ahead, come to no more than before, and so do the other reads, but for one
+-- for each call for which no memory was found; and something holds on.
+pub record Spent {S : Type 0} (Holds : S → Type 0) (leaves_of others_of : S → ℕ) (lost : ℕ) (old new : S) : Type 0 where
+  pub holds : Holds new
+  pub leaf : ℕ
+  pub other : ℕ
+  pub both : leaf + other ≡ lost
+  pub leaves : leaves_of new ≤ leaves_of old + leaf
+  pub fewer : others_of new ≤ others_of old + other
+
+pub none_spent : {S : Type 0} {Holds : S → Type 0} {leaves_of others_of : S → ℕ} (old new : S) → new ≡ old → Holds old → Spent Holds leaves_of others_of 0 old new
+none_spent {S} {Holds} {leaves_of} {others_of} old new same holds = subst (Spent Holds leaves_of others_of 0 old) (sym same) (record { holds = holds; leaf = 0; other = 0; both = refl; leaves = none_more (leaves_of old) (leaves_of old) (at_most (leaves_of old)); fewer = none_more (others_of old) (others_of old) (at_most (others_of old)) })
+
+both_lost : (a b c d lost more : ℕ) → a + b ≡ lost → c + d ≡ more → (a + c) + (b + d) ≡ lost + more
+both_lost a b c d lost more e f = omega (arith, e, f)
+
+pub spent_on : {S : Type 0} {Holds : S → Type 0} {leaves_of others_of : S → ℕ} (lost more : ℕ) (old mid new : S) → Spent Holds leaves_of others_of lost old mid → Spent Holds leaves_of others_of more mid new → Spent Holds leaves_of others_of (lost + more) old new
+spent_on {S} {Holds} {leaves_of} {others_of} lost more old mid new before last = record {
+  holds = last.holds;
+  leaf = before.leaf + last.leaf;
+  other = before.other + last.other;
+  both = both_lost before.leaf before.other last.leaf last.other lost more before.both last.both;
+  leaves = add_lost (leaves_of new) (leaves_of mid) (leaves_of old) before.leaf last.leaf before.leaves last.leaves;
+  fewer = add_lost (others_of new) (others_of mid) (others_of old) before.other last.other before.fewer last.fewer;
+}

@@ -51,8 +51,7 @@ use Rattle.rv_bounded.proofs.Sound.{IsShort, built_sum, held_short, kept_sum, pr
 use Rattle.rv_bounded.proofs.Stages.{behind, behind_idle, drawn_short, list_fewer, others_of, others_same, page_rise, record_rise, same_others, stage_by, stage_less, stage_most, sum_to, table_fewer}
 use Rattle.rv_bounded.proofs.UnionLaws.{Leafs, Placed, UnionSpends, give_spends, gone_dropped, gone_listed, idle_spends, leafs_placed, only_leafs, opened_most, opened_placed, step_lost, step_spends, take_lost, take_spends, takes_leafs, union_ahead}
 use Rattle.rv_bounded.proofs.Costs.{back_sum}
-use Rattle.rv_bounded.proofs.WholeLaws.{both_lost}
-use Rattle.rv_bounded.proofs.Sums.{less_more, le_on, same_less, risen_most, zero_least, add_lost, sum_none, sum_lost, still_sum}
+use Rattle.rv_bounded.proofs.Sums.{Spent, none_spent, less_more, le_on, same_less, risen_most, zero_least, sum_none, sum_lost, spent_on}
 use Rattle.rv_bounded.proofs.Reading.{one_record, one_page}
 
 -- of the present member, and of those before it: each has put at most 48 keys to what is guaranteed
@@ -433,28 +432,17 @@ does_costs p members Take would old new small most rule few w does fits = takes_
 does_costs p members TakeLost would old new small most rule few w does fits = takes_costs p members 1 None fits.0 old new (take_lost p members old new small w.placed does) w does fits.1 refl
 does_costs p members Give would old new small most rule few w does none = give_costs p members would old new most rule few w does
 
-record AllCost (p members lost : ℕ) (old new : Unioned) : Type 0 where
-  whole : UnionWhole p members new
-  leaf : ℕ
-  other : ℕ
-  both : leaf + other ≡ lost
-  leaves : new.trace.leaves + union_ahead p members new ≤ old.trace.leaves + union_ahead p members old + leaf
-  fewer : others_of new.trace + stage_of p members new ≤ others_of old.trace + stage_of p members old + other
+abbrev AllCost : ℕ → ℕ → ℕ → Unioned → Unioned → Type 0
+AllCost p members lost old new = Spent (UnionWhole p members) (λ (u : Unioned). u.trace.leaves + union_ahead p members u) (λ (u : Unioned). others_of u.trace + stage_of p members u) lost old new
 
 all_cost : (p members : ℕ) (calls : List Call) (old new : Unioned) → p + 2 * members < greatest → p ≤ greatest → members ≤ 2 ^ 32 → UnionWhole p members old → (does : UnionDoesAll calls old new) → UnionAllOver calls p old new does → AllCost p members (lost_by calls) old new
-all_cost p members [] old new small most few w does over = subst (AllCost p members 0 old) (sym does) (record { whole = w; leaf = 0; other = 0; both = refl; leaves = still_sum old.trace.leaves (union_ahead p members old); fewer = still_sum (others_of old.trace) (stage_of p members old) })
+all_cost p members [] old new small most few w does over = none_spent old new does w
 all_cost p members (call ∷ calls) old new small most few w does over =
     let mid = does.0 in
     let before = all_cost p members calls old mid small most few w does.1 over.0 in
-    let last = does_costs p members call does.2.would mid new small most does.2.bounded few before.whole does.2.does over.1 in
-    record {
-      whole = whole_on p members (lost_of call) mid new last before.whole;
-      leaf = before.leaf + last.leaf;
-      other = before.other + last.other;
-      both = both_lost before.leaf before.other last.leaf last.other (lost_by calls) (lost_of call) before.both last.both;
-      leaves = add_lost (new.trace.leaves + union_ahead p members new) (mid.trace.leaves + union_ahead p members mid) (old.trace.leaves + union_ahead p members old) before.leaf last.leaf before.leaves last.spends.fewer;
-      fewer = add_lost (others_of new.trace + stage_of p members new) (others_of mid.trace + stage_of p members mid) (others_of old.trace + stage_of p members old) before.other last.other before.fewer last.fewer;
-    }
+    let cost = does_costs p members call does.2.would mid new small most does.2.bounded few before.holds does.2.does over.1 in
+    let last : AllCost p members (lost_of call) mid new = record { holds = whole_on p members (lost_of call) mid new cost before.holds; leaf = cost.leaf; other = cost.other; both = cost.both; leaves = cost.spends.fewer; fewer = cost.fewer } in
+    spent_on (lost_by calls) (lost_of call) old mid new before last
 
 -- THE LAW
 

@@ -26,7 +26,7 @@ use Rattle.rv_bounded.proofs.Costs.{Costs, Whole, give_costs, others, rest_back,
 use Rattle.rv_bounded.proofs.Shares.{all_scans, to_read}
 use Rattle.rv_bounded.proofs.Sound.{first_sound}
 use Rattle.rv_bounded.proofs.StepCosts.{step_costs, step_lost_costs, take_costs, take_lost_costs}
-use Rattle.rv_bounded.proofs.Sums.{same_less, add_lost, small_pages, from_first, minus_less, none_risen, still_sum}
+use Rattle.rv_bounded.proofs.Sums.{Spent, none_spent, same_less, small_pages, spent_on, from_first, minus_less, none_risen}
 
 -- ONE CALL
 
@@ -39,31 +39,17 @@ does_call p planned query shown Give would old new small pages rule w does = giv
 
 -- ALL CALLS
 
-pub record AllCost (query : Query) (p planned lost : ℕ) (old new : Shape) : Type 0 where
-  pub whole : Whole query p planned new
-  pub leaf : ℕ
-  pub other : ℕ
-  pub both : leaf + other ≡ lost
-  pub leaves : new.trace.leaves + ahead p new.joint ≤ old.trace.leaves + ahead p old.joint + leaf
-  pub fewer : others new + rest_of p new ≤ others old + rest_of p old + other
-
-pub both_lost : (a b c d lost more : ℕ) → a + b ≡ lost → c + d ≡ more → (a + c) + (b + d) ≡ lost + more
-both_lost a b c d lost more e f = omega (arith, e, f)
+abbrev pub AllCost : Query → ℕ → ℕ → ℕ → Shape → Shape → Type 0
+AllCost query p planned lost old new = Spent (Whole query p planned) (λ (v : Shape). v.trace.leaves + ahead p v.joint) (λ (v : Shape). others v + rest_of p v) lost old new
 
 pub all_cost : (p planned : ℕ) (query : Query) (shown : Shown) (calls : List Call) (old new : Shape) → p + 2 * planned < greatest → p ≡ shown.pages query.table query.snap → Whole query p planned old → DoesAll calls shown old new → AllCost query p planned (lost_by calls) old new
-all_cost p planned query shown [] old new small pages w does = subst (AllCost query p planned 0 old) (sym does) (record { whole = w; leaf = 0; other = 0; both = refl; leaves = still_sum old.trace.leaves (ahead p old.joint); fewer = still_sum (others old) (rest_of p old) })
+all_cost p planned query shown [] old new small pages w does = none_spent old new does w
 all_cost p planned query shown (call ∷ calls) old new small pages w does =
     let mid = does.0 in
     let before = all_cost p planned query shown calls old mid small pages w does.1 in
-    let last = does_call p planned query shown call does.2.would mid new small pages does.2.bounded before.whole does.2.does in
-    record {
-      whole = whole_on query p planned (lost_of call) mid new last before.whole;
-      leaf = before.leaf + last.leaf;
-      other = before.other + last.other;
-      both = both_lost before.leaf before.other last.leaf last.other (lost_by calls) (lost_of call) before.both last.both;
-      leaves = add_lost (new.trace.leaves + ahead p new.joint) (mid.trace.leaves + ahead p mid.joint) (old.trace.leaves + ahead p old.joint) before.leaf last.leaf before.leaves last.spends.fewer;
-      fewer = add_lost (others new + rest_of p new) (others mid + rest_of p mid) (others old + rest_of p old) before.other last.other before.fewer last.fewer;
-    }
+    let cost = does_call p planned query shown call does.2.would mid new small pages does.2.bounded before.holds does.2.does in
+    let last : AllCost query p planned (lost_of call) mid new = record { holds = whole_on query p planned (lost_of call) mid new cost before.holds; leaf = cost.leaf; other = cost.other; both = cost.both; leaves = cost.spends.fewer; fewer = cost.fewer } in
+    spent_on (lost_by calls) (lost_of call) old mid new before last
 
 -- AT OPENING
 
